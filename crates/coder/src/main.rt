@@ -1,0 +1,188 @@
+// Codes quantities, and reports codes: a line of standard input is answered by a line of standard output (docs/CODER).
+mod answers;
+mod coding;
+mod lines;
+mod names;
+mod reporting;
+mod widths;
+
+ghost use Prim.Native.Nat.{_+_, _≤_};
+ghost use mathlib.Core.Path.{_≡_};
+ghost use lib.ListN.{length};
+ghost use Rattle.coder.specs.Held.{Sound};
+
+// A line of more octets is unreadable.
+const LONGEST_LINE: usize = 4096;
+
+// No answer takes more octets.
+const LONGEST_ANSWER: usize = 46;
+
+struct Held {
+    // octets of the line that is not yet ended; one more than the longest where there are more
+    used: usize,
+    // octets of answers that are not yet written
+    put: usize,
+    // lines answered
+    lines: u64,
+    // a write failed
+    closed: bool,
+}
+
+// Adds a piece of a line to what is held of it, and answers how many octets that makes.
+fn hold(line: &mut [u8], used: usize, piece: &[u8]) -> usize
+    requires { ⌜ length (now line) ≡ 4096 ⌝ }
+    ensures { λ r. ⌜ r ≤ 4097 ⌝ }
+{
+    if LONGEST_LINE < used {
+        return LONGEST_LINE + 1;
+    }
+    if LONGEST_LINE - used < piece.len() {
+        return LONGEST_LINE + 1;
+    }
+    text::put_bytes(line, used, piece)
+}
+
+// Writes the answers if there is no room for one more.
+fn make_room(out: &[u8], h: Held) -> Held
+    requires { ⌜ Sound h ⌝ }
+    requires { ⌜ length (now out) ≡ 65536 ⌝ }
+    ensures { λ r. ⌜ Sound r × (r .put + 46 ≤ 65536) ⌝ }
+{
+    let put = h.put;
+    if out.len() - put < LONGEST_ANSWER {
+        let written = io::write_all(1, &out[0..put]);
+        return Held {
+            used: h.used,
+            put: 0,
+            lines: h.lines,
+            closed: !written,
+        };
+    }
+    h
+}
+
+// One line more; no input has more than 64 bits can count.
+fn counted(lines: u64) -> u64 {
+    if lines == u64::MAX {
+        return lines;
+    }
+    lines + 1
+}
+
+// Answers the line that is held.
+fn end_line(out: &mut [u8], line: &[u8], h: Held) -> Held
+    requires { ⌜ Sound h ⌝ }
+    requires { ⌜ length (now out) ≡ 65536 ⌝ }
+    requires { ⌜ length (now line) ≡ 4096 ⌝ }
+    ensures { λ r. ⌜ Sound r ⌝ }
+{
+    let t = make_room(out, h);
+    let used = t.used;
+    let lines = counted(t.lines);
+    if LONGEST_LINE < used {
+        let put = answers::put_line(out, t.put, lines, answers::Printed::Unreadable);
+        return Held {
+            used: 0,
+            put,
+            lines,
+            closed: t.closed,
+        };
+    }
+    let put = answers::put_line(out, t.put, lines, lines::answer(&line[0..used]));
+    Held {
+        used: 0,
+        put,
+        lines,
+        closed: t.closed,
+    }
+}
+
+// Answers each line that ends in the block, and holds the rest.
+fn take_block(out: &mut [u8], line: &mut [u8], block: &[u8], held: Held) -> Held
+    requires { ⌜ Sound held ⌝ }
+    requires { ⌜ length (now out) ≡ 65536 ⌝ }
+    requires { ⌜ length (now line) ≡ 4096 ⌝ }
+    ensures { λ r. ⌜ Sound r ⌝ }
+{
+    let mut h = held;
+    let mut at = 0;
+    while at < block.len() {
+        let end = text::line_end(block, at);
+        h.used = hold(line, h.used, &block[at..end]);
+        if end == block.len() {
+            return h;
+        }
+        h = end_line(out, line, h);
+        if h.closed {
+            return h;
+        }
+        at = end + 1;
+    }
+    h
+}
+
+// Reads to the end of the input, and answers every line that ends.
+fn take_input(out: &mut [u8], line: &mut [u8], block: &mut [u8]) -> Held
+    requires { ⌜ length (now out) ≡ 65536 ⌝ }
+    requires { ⌜ length (now line) ≡ 4096 ⌝ }
+    ensures { λ r. ⌜ Sound r ⌝ }
+{
+    let mut h = Held {
+        used: 0,
+        put: 0,
+        lines: 0,
+        closed: false,
+    };
+    let mut turns = u64::MAX;
+    while turns > 0 {
+        let got = libc::read(0, block);
+        let n = io::count(got, block);
+        if n == 0 {
+            return h;
+        }
+        h = take_block(out, line, &block[0..n], h);
+        if h.closed {
+            return h;
+        }
+        turns -= 1;
+    }
+    h
+}
+
+// Answers a last line that has no newline, and ends.
+fn finish(out: &mut [u8], line: &[u8], h: Held)
+    requires { ⌜ Sound h ⌝ }
+    requires { ⌜ length (now out) ≡ 65536 ⌝ }
+    requires { ⌜ length (now line) ≡ 4096 ⌝ }
+{
+    if 0 < h.used {
+        let last = end_line(out, line, h);
+        write_end(out, last);
+        return;
+    }
+    write_end(out, h);
+}
+
+// Writes the answers that are left, and the number of lines.
+fn write_end(out: &mut [u8], h: Held)
+    requires { ⌜ Sound h ⌝ }
+    requires { ⌜ length (now out) ≡ 65536 ⌝ }
+{
+    let t = make_room(out, h);
+    if t.closed {
+        return;
+    }
+    let put = answers::put_end(out, t.put, t.lines);
+    io::write_all(1, &out[0..put]);
+}
+
+fn main() {
+    let mut out = io::large_buffer();
+    let mut line = io::buffer();
+    let mut block = io::large_buffer();
+    let h = take_input(&mut out, &mut line, &mut block);
+    if h.closed {
+        return;
+    }
+    finish(&mut out, &line, h);
+}

@@ -1,0 +1,52 @@
+-- `coordinates::longitude_code` meets its contract, by the law `coded`. Assumes nothing.
+use mathlib.Core.Path.{_≡_, refl, ap}
+use Prim.Native.Nat.{_+_, _≤_}
+use native.Mathlib.Omega.{arith}
+use lib.IntN.{natAbs}
+use borrow.Author.Needs.{needs}
+use Rattle.ground.specs.Signs.{partsOf}
+use Rattle.ground.specs.declared.signs.Parts.{Parts}
+use Rattle.ground.proofs.SignLaws.{held-parts}
+use Rattle.coordinates.specs.Turned.{up, down}
+use Rattle.coordinates.proofs.PartLaws.{abs-parts}
+use Rattle.coordinates.proofs.LongitudeLaws.{raised-is, coded}
+use Rattle.coordinates.proofs.longitudes.longitude_code.Statement.{statement}
+use Rattle.coordinates.proofs.longitudes.longitude_code.Tie as tie
+
+taken-apart-requires : tie.Need-taken-apart-requires
+taken-apart-requires c κs = search needs
+
+parts : (c : tie.After-taken-apart) → c .taken-apart .result ≡ partsOf (c .before .before .args .longitude .0)
+parts c = held-parts {z = c .before .before .args .longitude .0} (search needs) (c .taken-apart .ensures)
+
+size : (c : tie.After-taken-apart) → c .taken-apart .result .size ≡ natAbs (c .before .before .args .longitude .0)
+size c = ap (λ (p : Parts). p .size) (parts c)
+
+returns : tie.Need-returns
+returns c = (refl, omega (arith, size (c .before .before)))
+
+raised-requires : tie.Need-raised-requires
+raised-requires c κs = search needs
+
+-- x + 180 degrees, for x within 180 degrees
+turned : (c : tie.After-raised) → (c .raised .result + down (c .before .before .before .before .before .args .longitude .0) ≡ up (c .before .before .before .before .before .args .longitude .0) + 180000000000) × (natAbs (c .before .before .before .before .before .args .longitude .0) ≤ 180000000000)
+turned c = (
+  raised-is (c .before .before .before .before .before .args .longitude .0) _ 180000000000 (c .raised .result) (parts (c .before .before .before)) (c .raised .ensures),
+  omega (arith, size (c .before .before .before)),
+)
+
+mul-steps : tie.Need-mul-steps
+mul-steps c = omega (arith, turned c, abs-parts (c .before .before .before .before .before .args .longitude .0))
+
+cast-code-of : tie.Need-cast-code-of
+cast-code-of c = search needs
+
+code-of-requires : tie.Need-code-of-requires
+code-of-requires c κs = search needs
+
+returns-2 : tie.Need-returns-2
+returns-2 c =
+    coded _ (c .code-of .result .0) (c .before .raised .result) _ (turned (c .before) .1) (turned (c .before) .0) refl (c .code-of .ensures)
+
+pub longitude-code-spec : {M : Type 1} → statement M
+longitude-code-spec = tie.close (tie.spec taken-apart-requires returns raised-requires mul-steps cast-code-of code-of-requires returns-2)

@@ -1,0 +1,3 @@
+pub mod Latitude
+pub mod Longitude
+pub mod Turned

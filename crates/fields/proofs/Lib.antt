@@ -1,0 +1,6 @@
+pub mod StepLaws
+pub mod SetLaws
+pub mod LongitudeLaws
+pub mod OneAnswer
+pub mod OneOfEach
+pub mod Kept

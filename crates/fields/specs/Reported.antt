@@ -1,0 +1,64 @@
+-- Document 01's column "Quantity reported", in its own words. That a report is what the column says is a law (`proofs/Column.antt`). Assumes nothing.
+use mathlib.Core.Path.{_≡_}
+use Prim.Native.Nat.{ℕ, _+_, _*_}
+use lib.IntN.{ℤ, pos, negsuc}
+use mathlib.Core.Bool.{Bool, true, false}
+use Rattle.ground.specs.Signs.{signed}
+use Rattle.ground.specs.Sets.{NearestOf, LowestOf}
+use Rattle.ground.specs.declared.quantities.UncertaintySpeed.the-variants as uncertain
+use Rattle.ground.specs.declared.quantities.Confidence.the-variants as confident
+use Rattle.coordinates.specs.Latitude.{LatitudeSet}
+use Rattle.coordinates.specs.Longitude.{LongitudeSet}
+use Rattle.radii.specs.Radii.{RadiusCovers, HeightCovers}
+use Rattle.fields.specs.Fields.{
+  Field,
+  latitude,
+  longitude,
+  uncertainty,
+  altitudeUncertainty,
+  altitude,
+  innerRadius,
+  offset,
+  included,
+  orientation,
+  bearing,
+  horizontalSpeed,
+  verticalSpeed,
+  uncertaintySpeed,
+  confidence,
+  CodeOf,
+  QuantityOf,
+}
+
+-- the whole nanodegree of least absolute value in the set (south, N = 0: -1)
+pub record LatitudeColumn (south : Bool) (N : ℕ) (x : ℤ) : Type 0 where
+  pub nearest : NearestOf (LatitudeSet (record { 0 = south; 1 = N })) x
+  pub south-zero : south ≡ true → N ≡ 0 → x ≡ negsuc 0
+
+-- the least whole nanodegree in the set (so never +180)
+pub record LongitudeColumn (N x : ℤ) : Type 0 where
+  pub lowest : LowestOf (LongitudeSet N) x
+  pub never : x ≡ pos 180000000000 → ⊥
+
+-- the whole part: K covers it, and does not cover a millimetre more, so it is below the exact radius by less than 1 mm
+pub record WholePart (covers : ℕ → ℕ → Type 0) (K R : ℕ) : Type 0 where
+  pub covered : covers K R
+  pub below : covers K (R + 1) → ⊥
+
+abbrev pub Column : (f : Field) → CodeOf f → QuantityOf f → Type 0
+Column latitude c x = LatitudeColumn (c .0) (c .1) (x .0)
+Column longitude c x = LongitudeColumn (c .0) (x .0)
+Column uncertainty c x = WholePart RadiusCovers (c .0) (x .0)
+Column altitudeUncertainty c x = WholePart HeightCovers (c .0) (x .0)
+Column altitude c x = x .0 ≡ signed (c .0) (1000 * c .1)
+Column innerRadius c x = x .0 ≡ 5000 * c .0
+Column offset c x = x .0 ≡ 2000 * c .0
+Column included c x = x .0 ≡ 2000 * (c .0 + 1)
+Column orientation c x = x .0 ≡ 1000 * c .0
+Column bearing c x = x .0 ≡ 1000 * c .0
+Column horizontalSpeed c x = x .0 ≡ 1000 * c .0
+Column verticalSpeed c x = x .0 ≡ signed (c .0) (1000 * c .1)
+Column uncertaintySpeed c (uncertain.Speed s) = s .0 ≡ 1000 * c .0
+Column uncertaintySpeed c uncertain.Missing = c .0 ≡ 255
+Column confidence c (confident.PerCent p) = p ≡ c .0
+Column confidence c confident.Missing = c .0 ≡ 0

@@ -1,0 +1,44 @@
+-- What an answer says: document 01's number, and on 0 the values. Assumes nothing.
+use mathlib.Core.Path.{_≡_}
+use Prim.Native.Nat.{ℕ}
+use Rattle.ground.specs.declared.refusals.Refusal.{Refusal}
+use Rattle.ground.specs.declared.refusals.Refusal.the-variants.{
+  NoOctets,
+  UnknownType,
+  WrongLength,
+  PolygonCount,
+  AngleCode,
+  ConfidenceTooLarge,
+  OutOfRange,
+  UncertaintyTooLarge,
+  NoneHolds,
+  BufferTooShort,
+  FrameBroken,
+}
+
+abbrev pub numberOf : Refusal → ℕ
+numberOf NoOctets = 1
+numberOf UnknownType = 2
+numberOf WrongLength = 3
+numberOf PolygonCount = 4
+numberOf AngleCode = 5
+numberOf ConfidenceTooLarge = 6
+numberOf OutOfRange = 7
+numberOf UncertaintyTooLarge = 8
+numberOf NoneHolds = 9
+numberOf BufferTooShort = 10
+numberOf FrameBroken = 11
+
+-- 0 and the value, or the number of a refusal and nothing else
+pub data Said (A : Type 0) : Type 0 where
+  done : A → Said A
+  refused : ℕ → Said A
+
+-- The promise of a function that may refuse: 0 with a value that is right, or that number, for that reason.
+abbrev pub Answer : {A : Type 0} → (A → Type 0) → ℕ → Type 0 → Said A → Type 0
+Answer right number reason (done a) = right a
+Answer right number reason (refused n) = (n ≡ number) × reason
+
+-- The promise of a function that never refuses.
+abbrev pub Always : {A : Type 0} → (A → Type 0) → Said A → Type 0
+Always right = Answer right 0 ⊥

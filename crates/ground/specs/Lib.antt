@@ -1,0 +1,4 @@
+pub mod Signs
+pub mod Answers
+pub mod Sets
+pub mod Steps

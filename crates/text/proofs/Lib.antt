@@ -1,0 +1,4 @@
+pub mod OutputLaws
+pub mod MarkLaws
+pub mod NumeralLaws
+pub mod ReadBack

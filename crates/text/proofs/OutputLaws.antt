@@ -1,0 +1,112 @@
+-- Laws of text put into a buffer, and of decimals. Assumes nothing.
+use Prim.Native.Nat.{ℕ, zero, suc, _+_, _/_, _%_, _^_, _≤_, _<_}
+use mathlib.Core.Path.{_≡_, refl, sym, ap, _∙_, subst}
+use mathlib.Core.Bool.{Bool, cond, true, false}
+use mathlib.Core.List.{List, [], _∷_, _++_}
+use mathlib.Core.Logic.{_⊎_, inl, inr, ⊎-elim}
+use native.Mathlib.Nat.{pow-suc, div-lt-iff-lt-mul, add-zero, add-suc, suc-add, add-assoc}
+use native.Mathlib.Omega.{arith}
+use lib.ListN.{length, take, drop, set, length-append}
+use lib.Seq.{sets, length-sets, sets-eq, length-take-le, take-at, drop-at}
+use lib.Dec.{T, ltb}
+use lib.IntN.{ℤ, pos, negsuc}
+use mir.Syntax.{w64}
+use mir.Val.{SFits}
+use borrow.Author.Tests.{lt-ltb, le-ltb, ltb-true, ltb-false}
+use Rattle.ground.specs.Signs.{partsOf}
+use Rattle.ground.specs.declared.signs.Parts.{Parts}
+use Rattle.text.specs.Text.{decimalIn, decimal, signedDecimal, Puts}
+
+-- text put after text is the two in a row
+pub sets-append : (l : List ℕ) (i : ℕ) (a b : List ℕ) → sets (sets l i a) (i + length a) b ≡ sets l i (a ++ b)
+sets-append l i [] b = rw add-zero
+sets-append l i (x ∷ a) b = rw (add-suc, ← suc-add) (sets-append _ (suc i) a b)
+
+-- put, and then put after it
+pub then : {x y z t u : List ℕ} {i j k : ℕ} → Puts x i t y j → Puts y j u z k → Puts x i (t ++ u) z k
+then {x} {y} {z} {t} {u} {i} p q =
+    record {
+      content = rw (q .content, p .content, p .place) (sets-append x i t u);
+      place = rw (q .place, p .place, length-append) (add-assoc _ _ _);
+    }
+
+-- one octet put
+pub one : (x : List ℕ) (i b : ℕ) → Puts x i (b ∷ []) (set x i b) (i + 1)
+one x i b = record { content = refl; place = refl }
+
+-- nothing put
+pub none : {x : List ℕ} {i : ℕ} → Puts x i [] x i
+none {x} {i} = record { content = refl; place = sym (add-zero i) }
+
+-- a buffer keeps its length
+pub kept : {x y t : List ℕ} {i j : ℕ} → Puts x i t y j → length y ≡ length x
+kept {x} {y} {t} {i} p = ap length (p .content) ∙ length-sets x i t
+
+split-by : (a b : ℕ) (t : Bool) → ltb a b ≡ t → (a < b) ⊎ (b ≤ a)
+split-by a b true e = inl (ltb-true a b e)
+split-by a b false e = inr (ltb-false a b e)
+
+pub split : (a b : ℕ) → (a < b) ⊎ (b ≤ a)
+split a b = split-by a b (ltb a b) refl
+
+-- as many digits as there is room for, if that is enough
+decimal-room : (j k n : ℕ) → n < j → n < k → decimalIn j n ≡ decimalIn k n
+unfolding decimalIn
+decimal-room zero k n a b = absurd (omega arith)
+decimal-room (suc j) zero n a b = absurd (omega arith)
+decimal-room (suc j) (suc k) n a b =
+    ⊎-elim (λ (h : n < 10). simp (lt-ltb _ _ h))
+    (λ (h : 10 ≤ n). simp (le-ltb _ _ h) (rw (decimal-room j k (n / 10) (omega arith) (omega arith))))
+    (split n 10)
+
+pub decimal-small : {n : ℕ} → n < 10 → decimal n ≡ (48 + n) ∷ []
+unfolding decimal decimalIn
+decimal-small h = simp (lt-ltb _ _ h)
+
+pub decimal-more : {n : ℕ} → 10 ≤ n → decimal n ≡ decimal (n / 10) ++ ((48 + n % 10) ∷ [])
+unfolding decimal decimalIn
+decimal-more {n} h = simp (le-ltb _ _ h) (rw (decimal-room n (suc (n / 10)) (n / 10) (omega arith) (omega arith)))
+
+-- n has at most k digits where it is below 10 ^ k
+pub decimal-length : (k n : ℕ) → n < 10 ^ suc k → length (decimal n) ≤ suc k
+decimal-length zero n h = rw (decimal-small {n = n} (omega arith)) (omega arith)
+decimal-length (suc k) n h =
+    ⊎-elim (λ (l : n < 10). rw (decimal-small l) (omega arith))
+    (λ (l : 10 ≤ n).
+    let m : length (decimal (n / 10)) ≤ suc k = decimal-length k (n / 10) (div-lt-iff-lt-mul (omega arith) .1 (rw pow-suc at h)) in
+    rw (decimal-more l, length-append) (omega arith))
+    (split n 10)
+
+-- the text stands where it was put, after what stood before it
+pub text-so-far : {x y t : List ℕ} {i j : ℕ} → Puts x i t y j → j ≤ length x → take j y ≡ take i x ++ t
+text-so-far {x} {y} {t} {i} {j} p h =
+    let e : i + length t ≤ length x = omega (arith, p .place) in
+    let l : length (take i x ++ t) ≡ j = length-append (take i x) t ∙ omega (arith, length-take-le i x (omega arith), p .place) in
+    rw (p .content, sets-eq t x i e) (take-at (take i x ++ t) (drop (i + length t) x) j l)
+
+-- what follows it is as it was
+pub text-after : {x y t : List ℕ} {i j : ℕ} → Puts x i t y j → j ≤ length x → drop j y ≡ drop j x
+text-after {x} {y} {t} {i} {j} p h =
+    let e : i + length t ≤ length x = omega (arith, p .place) in
+    let l : length (take i x ++ t) ≡ j = length-append (take i x) t ∙ omega (arith, length-take-le i x (omega arith), p .place) in
+    rw (p .content, sets-eq t x i e, drop-at (take i x ++ t) (drop (i + length t) x) j l, p .place)
+
+-- a signed number's text, by its sign and its size
+pub minus-text : (x : ℤ) (p : Parts) → p ≡ partsOf x → p .negative ≡ true → signedDecimal x ≡ 45 ∷ decimal (p .size)
+unfolding signedDecimal
+minus-text (pos n) p e t = absurd (subst T (sym t ∙ ap (λ (q : Parts). q .negative) e) tt)
+minus-text (negsuc n) p e t = rw e
+
+pub plus-text : (x : ℤ) (p : Parts) → p ≡ partsOf x → p .negative ≡ false → signedDecimal x ≡ decimal (p .size)
+unfolding signedDecimal
+plus-text (pos n) p e t = rw e
+plus-text (negsuc n) p e t = absurd (subst T (ap (λ (q : Parts). q .negative) (sym e) ∙ t) tt)
+
+-- no number of 64 bits takes more than 20 octets
+pub decimal-most : {n : ℕ} → n < 2 ^ 64 → length (decimal n) ≤ 20
+decimal-most {n} h = decimal-length 19 n (omega arith)
+
+pub signed-most : (x : ℤ) → SFits w64 x → length (signedDecimal x) ≤ 20
+unfolding signedDecimal
+signed-most (pos n) f = decimal-most (omega (arith, f .sfits))
+signed-most (negsuc n) f = omega (arith, decimal-length 18 (suc n) (omega (arith, f .sfits)))
