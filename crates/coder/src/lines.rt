@@ -1,27 +1,45 @@
-// A line's answer.
+// A line's answer: `code NAME QUANTITY` or `report NAME CODE..`, with one space between two fields.
 use crate::answers::Printed;
 use crate::coding;
 use crate::names;
 use crate::reporting;
 
-// `code NAME QUANTITY` or `report NAME CODE..`, with one space between two fields; what is after the name is left to the two.
+enum Verb {
+    Code,
+    Report,
+    Unknown,
+}
+
 pub fn answer(line: &[u8]) -> Printed {
-    let verb = text::field_end(line, 0);
-    if verb == line.len() {
-        return Printed::Unreadable;
-    }
-    let from = verb + 1;
-    let end = text::field_end(line, from);
+    let end = text::field_end(line, 0);
     if end == line.len() {
         return Printed::Unreadable;
     }
-    let rest = end + 1;
-    let name = names::name_of(&line[from..end]);
-    if names::same(&line[0..verb], b"code") {
-        return coding::coded(name, &line[rest..]);
+    let from = end + 1;
+    done(verb_of(&line[0..end]), &line[from..])
+}
+
+// What the verb makes of the fields after it. How many come after the name is left to it.
+fn done(verb: Verb, fields: &[u8]) -> Printed {
+    let end = text::field_end(fields, 0);
+    if end == fields.len() {
+        return Printed::Unreadable;
     }
-    if names::same(&line[0..verb], b"report") {
-        return reporting::reported(name, &line[rest..]);
+    let from = end + 1;
+    let name = names::name_of(&fields[0..end]);
+    match verb {
+        Verb::Code => coding::coded(name, &fields[from..]),
+        Verb::Report => reporting::reported(name, &fields[from..]),
+        Verb::Unknown => Printed::Unreadable,
     }
-    Printed::Unreadable
+}
+
+fn verb_of(s: &[u8]) -> Verb {
+    if names::same(s, b"code") {
+        return Verb::Code;
+    }
+    if names::same(s, b"report") {
+        return Verb::Report;
+    }
+    Verb::Unknown
 }

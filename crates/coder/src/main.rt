@@ -1,4 +1,5 @@
-// Codes quantities, and reports codes: a line of standard input is answered by a line of standard output (docs/CODER).
+// Codes quantities, and reports codes: each line of standard input is answered by a line of standard output, its number,
+// the answer, and on 0 the code or the quantity. A last line says how many there were.
 mod answers;
 mod coding;
 mod lines;
@@ -45,8 +46,8 @@ fn hold(line: &mut [u8], used: usize, piece: &[u8]) -> usize
 // Writes the answers if there is no room for one more.
 fn make_room(out: &[u8], h: Held) -> Held
     requires { ⌜ Sound h ⌝ }
-    requires { ⌜ length (now out) ≡ 65536 ⌝ }
-    ensures { λ r. ⌜ Sound r × (r .put + 46 ≤ 65536) ⌝ }
+    requires { ⌜ length (now out) ≡ 4096 ⌝ }
+    ensures { λ r. ⌜ Sound r × (r .put + 46 ≤ 4096) ⌝ }
 {
     let put = h.put;
     if out.len() - put < LONGEST_ANSWER {
@@ -72,7 +73,7 @@ fn counted(lines: u64) -> u64 {
 // Answers the line that is held.
 fn end_line(out: &mut [u8], line: &[u8], h: Held) -> Held
     requires { ⌜ Sound h ⌝ }
-    requires { ⌜ length (now out) ≡ 65536 ⌝ }
+    requires { ⌜ length (now out) ≡ 4096 ⌝ }
     requires { ⌜ length (now line) ≡ 4096 ⌝ }
     ensures { λ r. ⌜ Sound r ⌝ }
 {
@@ -100,7 +101,7 @@ fn end_line(out: &mut [u8], line: &[u8], h: Held) -> Held
 // Answers each line that ends in the block, and holds the rest.
 fn take_block(out: &mut [u8], line: &mut [u8], block: &[u8], held: Held) -> Held
     requires { ⌜ Sound held ⌝ }
-    requires { ⌜ length (now out) ≡ 65536 ⌝ }
+    requires { ⌜ length (now out) ≡ 4096 ⌝ }
     requires { ⌜ length (now line) ≡ 4096 ⌝ }
     ensures { λ r. ⌜ Sound r ⌝ }
 {
@@ -123,7 +124,7 @@ fn take_block(out: &mut [u8], line: &mut [u8], block: &[u8], held: Held) -> Held
 
 // Reads to the end of the input, and answers every line that ends.
 fn take_input(out: &mut [u8], line: &mut [u8], block: &mut [u8]) -> Held
-    requires { ⌜ length (now out) ≡ 65536 ⌝ }
+    requires { ⌜ length (now out) ≡ 4096 ⌝ }
     requires { ⌜ length (now line) ≡ 4096 ⌝ }
     ensures { λ r. ⌜ Sound r ⌝ }
 {
@@ -152,7 +153,7 @@ fn take_input(out: &mut [u8], line: &mut [u8], block: &mut [u8]) -> Held
 // Answers a last line that has no newline, and ends.
 fn finish(out: &mut [u8], line: &[u8], h: Held)
     requires { ⌜ Sound h ⌝ }
-    requires { ⌜ length (now out) ≡ 65536 ⌝ }
+    requires { ⌜ length (now out) ≡ 4096 ⌝ }
     requires { ⌜ length (now line) ≡ 4096 ⌝ }
 {
     if 0 < h.used {
@@ -166,7 +167,7 @@ fn finish(out: &mut [u8], line: &[u8], h: Held)
 // Writes the answers that are left, and the number of lines.
 fn write_end(out: &mut [u8], h: Held)
     requires { ⌜ Sound h ⌝ }
-    requires { ⌜ length (now out) ≡ 65536 ⌝ }
+    requires { ⌜ length (now out) ≡ 4096 ⌝ }
 {
     let t = make_room(out, h);
     if t.closed {
@@ -177,7 +178,7 @@ fn write_end(out: &mut [u8], h: Held)
 }
 
 fn main() {
-    let mut out = io::large_buffer();
+    let mut out = io::buffer();
     let mut line = io::buffer();
     let mut block = io::large_buffer();
     let h = take_input(&mut out, &mut line, &mut block);

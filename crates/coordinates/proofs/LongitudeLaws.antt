@@ -2,20 +2,20 @@
 use mathlib.Core.Path.{_≡_, refl, sym, ap, _∙_, subst}
 use mathlib.Core.Bool.{Bool, true, false, cond}
 use mathlib.Core.Logic.{_⊎_, inl, inr, ⊎-elim}
-use Prim.Native.Nat.{ℕ, suc, _+_, _*_, _/_, _%_, _^_, _≤_, _<_}
+use Prim.Native.Nat.{ℕ, suc, _+_, _-_, _*_, _/_, _%_, _^_, _≤_, _<_}
 use native.Mathlib.Nat.{add-mul, one-mul}
 use native.Mathlib.Omega.{arith}
-use lib.Dec.{eqb}
+use lib.Dec.{T, eqb}
 use lib.IntN.{ℤ, pos, negsuc, natAbs, subℕ, _+ℤ_, _-ℤ_, _*ℤ_}
 use lib.Signed.{mag, _≤ℤ_, _<ℤ_}
 use borrow.Author.Tests.{eqb-true, eqb-false}
 use mir.Syntax.{Width}
 use mir.Val.{SFits, hbits, toZ, ofZ}
 use mir.Facts.{toZ-pos, toZ-ofZ}
-use Rattle.ground.specs.Signs.{partsOf}
+use Rattle.ground.specs.Signs.{isNegative, partsOf}
 use Rattle.ground.specs.Sets.{LowestOf}
 use Rattle.ground.specs.declared.signs.Parts.{Parts}
-use Rattle.coordinates.specs.Turned.{up, down, Turned, Less}
+use Rattle.coordinates.specs.Halves.{up, down, Less}
 use Rattle.coordinates.specs.Longitude.{TurnStep, meridian, LongitudeSet}
 use Rattle.coordinates.proofs.PartLaws.{sub-parts, add-parts, mul-parts, le-parts, parts-le, lt-parts, parts-lt}
 
@@ -53,14 +53,24 @@ module _ (w degree : ℕ) (N y : ℤ) where
         below = omega (arith, lt-parts (y *ℤ pos (2 ^ w)) ((N +ℤ pos 1) *ℤ pos (360 * degree)) (s .below));
       }
 
--- ---- a number that was taken apart and raised
+-- ---- half a turn added to a number x that was taken apart
 
-raised-parts : (x : ℤ) (half r : ℕ) → Turned (partsOf x) half r → r + down x ≡ up x + half
-raised-parts (pos n) half r t = omega arith
-raised-parts (negsuc n) half r t = omega arith
+raised-parts : (x : ℤ) (half : ℕ) → natAbs x ≤ half → (isNegative x ≡ true → half - natAbs x + down x ≡ up x + half) × (isNegative x ≡ false → half + natAbs x + down x ≡ up x + half)
+raised-parts (pos n) half h = ((λ e. absurd (subst T (sym e) tt)), (λ e. omega arith))
+raised-parts (negsuc n) half h = ((λ e. omega arith), (λ e. absurd (subst T e tt)))
 
-pub raised-is : (x : ℤ) (p : Parts) (half r : ℕ) → p ≡ partsOf x → Turned p half r → r + down x ≡ up x + half
-raised-is x p half r e t = raised-parts x half r (subst (λ (q : Parts). Turned q half r) e t)
+module _ (x : ℤ) {p : Parts} (half : ℕ) (e : p ≡ partsOf x) (h : p .size ≤ half) where
+  size : p .size ≡ natAbs x
+  size = ap (λ (q : Parts). q .size) e
+
+  sign : p .negative ≡ isNegative x
+  sign = ap (λ (q : Parts). q .negative) e
+
+  pub raised-west : p .negative ≡ true → half - p .size + down x ≡ up x + half
+  raised-west t = rw size (raised-parts x half (omega (arith, size)) .0 (sym sign ∙ t))
+
+  pub raised-east : p .negative ≡ false → half + p .size + down x ≡ up x + half
+  raised-east t = rw size (raised-parts x half (omega (arith, size)) .1 (sym sign ∙ t))
 
 -- ---- the code: u is x + 180 degrees, and m, reduced, is N + 2^23
 

@@ -1,3 +1,3 @@
 pub mod Latitude
 pub mod Longitude
-pub mod Turned
+pub mod Halves

@@ -3,11 +3,10 @@
 use crate::CoordinateReported;
 use ground::LongitudeCode;
 use ground::Nanodegrees;
-use ground::Parts;
 use ground::Refusal;
 use ground::Whole;
-ghost use Prim.Native.Nat.{_≤_, _<_};
-ghost use Rattle.coordinates.specs.Turned.{Turned, Raisable, Less};
+ghost use Prim.Native.Nat.{_<_};
+ghost use Rattle.coordinates.specs.Halves.{Less};
 ghost use Rattle.coordinates.specs.Longitude.{CodedLongitude, ReportedLongitude};
 
 pub enum LongitudeCoded {
@@ -15,43 +14,43 @@ pub enum LongitudeCoded {
     Refused(Refusal),
 }
 
-// The remainder takes +180 degrees, a whole turn after half a turn is added, to the meridian of -180.
+// The remainder takes +180 degrees, a whole turn once half a turn is added, to the meridian of -180.
 pub fn longitude_code(longitude: Nanodegrees) -> LongitudeCoded
     ensures { λ r. ⌜ CodedLongitude longitude r ⌝ }
 {
     let parts = ground::taken_apart(Whole(longitude.0));
-    if 180000000000 < parts.size {
+    let size = parts.size;
+    if 180000000000 < size {
         return LongitudeCoded::Refused(Refusal::OutOfRange);
     }
-    let turned = raised(parts, 180000000000);
+    let turned = if parts.negative {
+        180000000000 - size
+    } else {
+        180000000000 + size
+    };
     let steps = turned * 16777216 / 360000000000 % 16777216;
     LongitudeCoded::Code(code_of(steps as u32))
 }
 
+// The whole nanodegree at or above the step's lower end.
 pub fn reported_longitude(code: LongitudeCode) -> CoordinateReported
     ensures { λ r. ⌜ ReportedLongitude code r ⌝ }
 {
     let parts = ground::taken_apart(Whole(code.0 as i64));
-    if 8388608 < parts.size {
+    let size = parts.size;
+    if 8388608 < size {
         return CoordinateReported::Refused(Refusal::OutOfRange);
     }
-    let steps = raised(parts, 8388608);
+    let steps = if parts.negative {
+        8388608 - size
+    } else {
+        8388608 + size
+    };
     if 16777216 <= steps {
         return CoordinateReported::Refused(Refusal::OutOfRange);
     }
-    let longitude = lowered((steps * 360000000000 + 16777215) / 16777216);
-    CoordinateReported::Coordinate(longitude)
-}
-
-// The number of those parts, and half a turn.
-fn raised(parts: Parts, half: u64) -> u64
-    requires { ⌜ Raisable parts half ⌝ }
-    ensures { λ r. ⌜ Turned parts half r ⌝ }
-{
-    if parts.negative {
-        return half - parts.size;
-    }
-    half + parts.size
+    let turned = (steps * 360000000000 + 16777215) / 16777216;
+    CoordinateReported::Coordinate(lowered(turned))
 }
 
 // The code of a step, less half a turn.

@@ -4,3 +4,4 @@ pub mod LongitudeLaws
 pub mod OneAnswer
 pub mod OneOfEach
 pub mod Kept
+pub mod Column

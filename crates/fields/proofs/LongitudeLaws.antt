@@ -9,7 +9,7 @@ use lib.IntN.{ℤ, pos, negsuc, natAbs}
 use lib.Signed.{mag, _≤ℤ_}
 use borrow.Author.Tests.{eqb-true}
 use Rattle.ground.specs.Sets.{LowestOf}
-use Rattle.coordinates.specs.Turned.{up, down}
+use Rattle.coordinates.specs.Halves.{up, down}
 use Rattle.coordinates.specs.Longitude.{meridian, LongitudeSet}
 use Rattle.coordinates.proofs.PartLaws.{le-parts}
 use Rattle.coordinates.proofs.LongitudeLaws.{step→linear, one-part}

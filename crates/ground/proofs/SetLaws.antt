@@ -18,7 +18,7 @@ module _ {P : ℕ → Type 0} where
 
 -- ---- the nearest of a sign: the least size with that sign, and -1 for a size of 0 below zero
 
-below-one : (y : ℤ) → true ≡ isNegative y → 1 ≤ natAbs y
+pub below-one : (y : ℤ) → true ≡ isNegative y → 1 ≤ natAbs y
 below-one (pos n) e = absurd (subst T e tt)
 below-one (negsuc n) e = omega arith
 

@@ -48,9 +48,9 @@ module _ (scale num den : ℕ) (p : 0 < den) where
 
     pub first-least : (R K : ℕ) → FirstAt table R K → LeastCode (Covers scale num den) 127 R K
     first-least R K f = record {
-      code = f .place;
-      covered = covers-from (entry K (omega arith)) (f .here);
-      least = λ J l. covers-none (entry J (omega arith)) (f .none J l);
+      code = omega (arith, f .place);
+      covered = covers-from (entry K (omega (arith, f .place))) (rw (add-zero K) at (f .here));
+      least = λ J l. covers-none (entry J (omega (arith, f .place))) (f .none J l);
     }
 
     pub none-covers : (R : ℕ) → getD table 127 0 < R → Covers scale num den 127 R → ⊥

@@ -39,11 +39,11 @@ pub fn uncertainty_code(radius: Millimetres) -> UncertaintyCoded
 pub fn reported_uncertainty(code: UncertaintyCode) -> RadiusReported
     ensures { λ r. ⌜ ReportedUncertainty code r ⌝ }
 {
-    let k = code.0;
-    if 127 < k {
+    let radius_k = code.0;
+    if 127 < radius_k {
         return RadiusReported::Refused(Refusal::OutOfRange);
     }
-    RadiusReported::Radius(Millimetres(RADII[k as usize]))
+    RadiusReported::Radius(Millimetres(RADII[radius_k as usize]))
 }
 
 pub fn altitude_uncertainty_code(height: Millimetres) -> AltitudeUncertaintyCoded
@@ -61,9 +61,9 @@ pub fn altitude_uncertainty_code(height: Millimetres) -> AltitudeUncertaintyCode
 pub fn reported_altitude_uncertainty(code: AltitudeUncertaintyCode) -> RadiusReported
     ensures { λ r. ⌜ ReportedAltitudeUncertainty code r ⌝ }
 {
-    let k = code.0;
-    if 127 < k {
+    let height_k = code.0;
+    if 127 < height_k {
         return RadiusReported::Refused(Refusal::OutOfRange);
     }
-    RadiusReported::Radius(Millimetres(HEIGHTS[k as usize]))
+    RadiusReported::Radius(Millimetres(HEIGHTS[height_k as usize]))
 }

@@ -4,9 +4,6 @@ use native.Mathlib.Omega.{arith}
 use Rattle.text.proofs.OutputLaws.{decimal-most}
 use Rattle.coder.proofs.answers.put_size.Statement.{statement}
 use Rattle.coder.proofs.answers.put_size.Tie as tie
-use Rattle.coder.proofs.answers.put_size.Reads as reads
-use Rattle.coder.proofs.answers.put_size.Lts as lts
-use Rattle.text.proofs.put_decimal.Reads as put-decimal-reads
 
 put-decimal-requires : tie.Need-put-decimal-requires
 put-decimal-requires c κs = omega (arith, decimal-most {n = c .before .before .args .n} (omega arith))

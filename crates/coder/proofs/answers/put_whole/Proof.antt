@@ -4,9 +4,6 @@ use native.Mathlib.Omega.{arith}
 use Rattle.text.proofs.OutputLaws.{signed-most}
 use Rattle.coder.proofs.answers.put_whole.Statement.{statement}
 use Rattle.coder.proofs.answers.put_whole.Tie as tie
-use Rattle.coder.proofs.answers.put_whole.Reads as reads
-use Rattle.coder.proofs.answers.put_whole.Lts as lts
-use Rattle.text.proofs.put_number.Reads as put-number-reads
 
 put-number-requires : tie.Need-put-number-requires
 put-number-requires c κs = omega (arith, signed-most (c .before .before .args .x .0) (search needs))

@@ -3,8 +3,6 @@ use borrow.Author.Needs.{needs}
 use Rattle.ground.proofs.SignLaws.{wide-fits}
 use Rattle.coder.proofs.answers.signed.Statement.{statement}
 use Rattle.coder.proofs.answers.signed.Tie as tie
-use Rattle.coder.proofs.answers.signed.Reads as reads
-use Rattle.coder.proofs.answers.signed.Lts as lts
 
 cast-t2 : tie.Need-cast-t2
 cast-t2 c = wide-fits (c .fits .n)

@@ -4,8 +4,6 @@ use borrow.Author.Needs.{needs}
 use lib.ListN.{length}
 use Rattle.coder.proofs.names.same.Statement.{statement}
 use Rattle.coder.proofs.names.same.Tie as tie
-use Rattle.coder.proofs.names.same.Reads as reads
-use Rattle.coder.proofs.names.same.Lts as lts
 
 abbrev Inv-loop : tie.InvT-loop
 Inv-loop s t i₀ i = i ≤ length s

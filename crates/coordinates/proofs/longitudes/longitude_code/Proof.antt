@@ -1,5 +1,6 @@
 -- `coordinates::longitude_code` meets its contract, by the law `coded`. Assumes nothing.
 use mathlib.Core.Path.{_≡_, refl, ap}
+use mathlib.Core.Logic.{⊎-elim}
 use Prim.Native.Nat.{_+_, _≤_}
 use native.Mathlib.Omega.{arith}
 use lib.IntN.{natAbs}
@@ -7,9 +8,9 @@ use borrow.Author.Needs.{needs}
 use Rattle.ground.specs.Signs.{partsOf}
 use Rattle.ground.specs.declared.signs.Parts.{Parts}
 use Rattle.ground.proofs.SignLaws.{held-parts}
-use Rattle.coordinates.specs.Turned.{up, down}
+use Rattle.coordinates.specs.Halves.{up, down}
 use Rattle.coordinates.proofs.PartLaws.{abs-parts}
-use Rattle.coordinates.proofs.LongitudeLaws.{raised-is, coded}
+use Rattle.coordinates.proofs.LongitudeLaws.{raised-west, raised-east, coded}
 use Rattle.coordinates.proofs.longitudes.longitude_code.Statement.{statement}
 use Rattle.coordinates.proofs.longitudes.longitude_code.Tie as tie
 
@@ -23,20 +24,24 @@ size : (c : tie.After-taken-apart) → c .taken-apart .result .size ≡ natAbs (
 size c = ap (λ (p : Parts). p .size) (parts c)
 
 returns : tie.Need-returns
-returns c = (refl, omega (arith, size (c .before .before)))
+returns c = (refl, omega (arith, size (c .before)))
 
-raised-requires : tie.Need-raised-requires
-raised-requires c κs = search needs
+add-turned : tie.Need-add-turned
+add-turned c = search needs
 
--- x + 180 degrees, for x within 180 degrees
-turned : (c : tie.After-raised) → (c .raised .result + down (c .before .before .before .before .before .args .longitude .0) ≡ up (c .before .before .before .before .before .args .longitude .0) + 180000000000) × (natAbs (c .before .before .before .before .before .args .longitude .0) ≤ 180000000000)
-turned c = (
-  raised-is (c .before .before .before .before .before .args .longitude .0) _ 180000000000 (c .raised .result) (parts (c .before .before .before)) (c .raised .ensures),
-  omega (arith, size (c .before .before .before)),
-)
+-- x + 180 degrees
+turned : (c : tie.Joined2) → c .if2 .turned + down (c .before .before .before .before .args .longitude .0) ≡ up (c .before .before .before .before .args .longitude .0) + 180000000000
+turned c =
+    let x = c .before .before .before .before .args .longitude .0 in
+    let p = parts (c .before .before) in
+    let h = c .before .if1 .left in
+    ⊎-elim (λ w. omega (arith, raised-west x 180000000000 p h (w .0 .taken), w .1)) (λ w. omega (arith, raised-east x 180000000000 p h (w .0 .left), w .1)) (c .if2 .came)
+
+near : (c : tie.Joined2) → natAbs (c .before .before .before .before .args .longitude .0) ≤ 180000000000
+near c = omega (arith, size (c .before .before))
 
 mul-steps : tie.Need-mul-steps
-mul-steps c = omega (arith, turned c, abs-parts (c .before .before .before .before .before .args .longitude .0))
+mul-steps c = omega (arith, turned (c .before), near (c .before), abs-parts (c .before .before .before .before .before .args .longitude .0))
 
 cast-code-of : tie.Need-cast-code-of
 cast-code-of c = search needs
@@ -46,7 +51,9 @@ code-of-requires c κs = search needs
 
 returns-2 : tie.Need-returns-2
 returns-2 c =
-    coded _ (c .code-of .result .0) (c .before .raised .result) _ (turned (c .before) .1) (turned (c .before) .0) refl (c .code-of .ensures)
+    let j = c .before .before in
+    coded _ (c .code-of .result .0) (j .if2 .turned) _ (near j) (turned j) refl (c .code-of .ensures)
 
 pub longitude-code-spec : {M : Type 1} → statement M
-longitude-code-spec = tie.close (tie.spec taken-apart-requires returns raised-requires mul-steps cast-code-of code-of-requires returns-2)
+longitude-code-spec =
+    tie.close (tie.spec taken-apart-requires returns add-turned mul-steps cast-code-of code-of-requires returns-2)

@@ -1,5 +1,6 @@
 -- `coordinates::reported_longitude` meets its contract, by the law `reported`. Assumes nothing.
 use mathlib.Core.Path.{_≡_, refl, ap}
+use mathlib.Core.Logic.{⊎-elim}
 use Prim.Native.Nat.{_+_}
 use native.Mathlib.Omega.{arith}
 use lib.IntN.{natAbs}
@@ -9,16 +10,16 @@ use borrow.Author.Needs.{needs}
 use Rattle.ground.specs.Signs.{partsOf}
 use Rattle.ground.specs.declared.signs.Parts.{Parts}
 use Rattle.ground.proofs.SignLaws.{wide-fits, wide-parts}
-use Rattle.coordinates.specs.Turned.{up, down}
-use Rattle.coordinates.proofs.LongitudeLaws.{raised-is, reported, bits-from, bits-beyond, size-beyond}
+use Rattle.coordinates.specs.Halves.{up, down}
+use Rattle.coordinates.proofs.LongitudeLaws.{raised-west, raised-east, reported, bits-from, bits-beyond, size-beyond}
 use Rattle.coordinates.proofs.longitudes.reported_longitude.Statement.{statement}
 use Rattle.coordinates.proofs.longitudes.reported_longitude.Tie as tie
 
 fits : (c : tie.After-struct-told) → SFits w32 (c .before .before .args .code .0)
 fits c = search needs
 
-cast-t5 : tie.Need-cast-t5
-cast-t5 c = wide-fits (fits c)
+cast-t6 : tie.Need-cast-t6
+cast-t6 c = wide-fits (fits c)
 
 taken-apart-requires : tie.Need-taken-apart-requires
 taken-apart-requires c κs = search needs
@@ -28,34 +29,41 @@ parts c = wide-parts (fits (c .before)) (c .taken-apart .ensures)
 
 returns : tie.Need-returns
 returns c =
-    let size : c .before .before .taken-apart .result .size ≡ natAbs (c .before .before .before .before .before .args .code .0) = ap (λ (p : Parts). p .size) (parts (c .before .before)) in
-    (refl, size-beyond (c .before .before .before .before .before .args .code .0) (omega arith))
+    let N = c .before .before .before .before .args .code .0 in
+    let size : c .before .taken-apart .result .size ≡ natAbs N = ap (λ (p : Parts). p .size) (parts (c .before)) in
+    (refl, size-beyond N (omega arith))
 
-raised-requires : tie.Need-raised-requires
-raised-requires c κs = search needs
+add-steps : tie.Need-add-steps
+add-steps c = search needs
 
 -- N + 2^23
-steps : (c : tie.After-raised) → c .raised .result + down (c .before .before .before .before .before .before .args .code .0) ≡ up (c .before .before .before .before .before .before .args .code .0) + 8388608
-steps c = raised-is (c .before .before .before .before .before .before .args .code .0) _ 8388608 (c .raised .result) (parts (c .before .before .before)) (c .raised .ensures)
+steps : (c : tie.Joined2) → c .if2 .steps + down (c .before .before .before .before .before .args .code .0) ≡ up (c .before .before .before .before .before .args .code .0) + 8388608
+steps c =
+    let N = c .before .before .before .before .before .args .code .0 in
+    let p = parts (c .before .before) in
+    let h = c .before .if1 .left in
+    ⊎-elim (λ w. omega (arith, raised-west N 8388608 p h (w .0 .taken), w .1)) (λ w. omega (arith, raised-east N 8388608 p h (w .0 .left), w .1)) (c .if2 .came)
 
 returns-2 : tie.Need-returns-2
-returns-2 c = (refl, bits-beyond (c .before .before .before .before .before .before .before .args .code .0) _ (steps (c .before)) (c .if2 .taken))
+returns-2 c = (refl, bits-beyond (c .before .before .before .before .before .before .args .code .0) _ (steps (c .before)) (c .if3 .taken))
 
-mul-lowered : tie.Need-mul-lowered
-mul-lowered c = search needs
+mul-turned : tie.Need-mul-turned
+mul-turned c = search needs
 
-add-lowered : tie.Need-add-lowered
-add-lowered c = search needs
+add-turned : tie.Need-add-turned
+add-turned c = search needs
 
 lowered-requires : tie.Need-lowered-requires
 lowered-requires c κs = search needs
 
 returns-3 : tie.Need-returns-3
 returns-3 c =
-    let N = c .before .before .before .before .before .before .before .before .args .code .0 in
-    let e = steps (c .before .before) in
-    reported N (c .lowered .result .0) (c .before .before .raised .result) _ (bits-from N _ e (c .before .if2 .left)) (c .before .if2 .left) e refl (c .lowered .ensures)
+    let j = c .before .before .before in
+    let N = j .before .before .before .before .before .args .code .0 in
+    let h = c .before .before .if3 .left in
+    reported N (c .lowered .result .0) (j .if2 .steps) _ (bits-from N _ (steps j) h) h (steps j) refl (c .lowered .ensures)
 
 pub reported-longitude-spec : {M : Type 1} → statement M
 reported-longitude-spec =
-    tie.close (tie.spec cast-t5 taken-apart-requires returns raised-requires returns-2 mul-lowered add-lowered lowered-requires returns-3)
+    tie.close
+    (tie.spec cast-t6 taken-apart-requires returns add-steps returns-2 mul-turned add-turned lowered-requires returns-3)
