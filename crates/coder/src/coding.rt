@@ -11,6 +11,7 @@ use angles::BearingCoded;
 use angles::IncludedCoded;
 use angles::OffsetCoded;
 use angles::OrientationCoded;
+use confidences::ConfidenceCoded;
 use coordinates::LatitudeCoded;
 use coordinates::LongitudeCoded;
 use ground::Confidence;
@@ -23,8 +24,7 @@ use ground::SignedMillimetres;
 use ground::UncertaintySpeed;
 use radii::AltitudeUncertaintyCoded;
 use radii::UncertaintyCoded;
-use steps::ConfidenceCoded;
-use steps::UncertaintySpeedCoded;
+use speeds::UncertaintySpeedCoded;
 use text::Numeral;
 
 // A dash is a missing uncertainty speed or confidence; for every other name it is no number.
@@ -93,7 +93,7 @@ fn altitude_uncertainty(n: Numeral) -> Printed {
 fn altitude(n: Numeral) -> Printed {
     match widths::signed_32(n, Printed::Unreadable) {
         Signed32::Number(x) => {
-            let c = steps::altitude_code(SignedMillimetres(x));
+            let c = lengths::altitude_code(SignedMillimetres(x));
             answers::two(c.0, c.1 as u32)
         }
         Signed32::Else(printed) => printed,
@@ -103,7 +103,7 @@ fn altitude(n: Numeral) -> Printed {
 fn inner_radius(n: Numeral) -> Printed {
     match widths::unsigned_32(n, Printed::Unreadable) {
         Unsigned32::Number(x) => {
-            let c = steps::inner_radius_code(Millimetres(x));
+            let c = lengths::inner_radius_code(Millimetres(x));
             answers::one(c.0 as u32)
         }
         Unsigned32::Else(printed) => printed,
@@ -153,7 +153,7 @@ fn bearing(n: Numeral) -> Printed {
 fn horizontal_speed(n: Numeral) -> Printed {
     match widths::unsigned_32(n, Printed::Unreadable) {
         Unsigned32::Number(x) => {
-            let c = steps::horizontal_speed_code(MetresPerHour(x));
+            let c = speeds::horizontal_speed_code(MetresPerHour(x));
             answers::one(c.0 as u32)
         }
         Unsigned32::Else(printed) => printed,
@@ -163,7 +163,7 @@ fn horizontal_speed(n: Numeral) -> Printed {
 fn vertical_speed(n: Numeral) -> Printed {
     match widths::signed_32(n, Printed::Unreadable) {
         Signed32::Number(x) => {
-            let c = steps::vertical_speed_code(SignedMetresPerHour(x));
+            let c = speeds::vertical_speed_code(SignedMetresPerHour(x));
             answers::two(c.0, c.1 as u32)
         }
         Signed32::Else(printed) => printed,
@@ -181,7 +181,7 @@ fn uncertainty_speed(missing: bool, n: Numeral) -> Printed {
 }
 
 fn speed_code(uncertainty: UncertaintySpeed) -> Printed {
-    match steps::uncertainty_speed_code(uncertainty) {
+    match speeds::uncertainty_speed_code(uncertainty) {
         UncertaintySpeedCoded::Code(c) => answers::one(c.0 as u32),
         UncertaintySpeedCoded::Refused(why) => answers::refused(why),
     }
@@ -198,7 +198,7 @@ fn confidence(missing: bool, n: Numeral) -> Printed {
 }
 
 fn per_cent_code(confidence: Confidence) -> Printed {
-    match steps::confidence_code(confidence) {
+    match confidences::confidence_code(confidence) {
         ConfidenceCoded::Code(c) => answers::one(c.0 as u32),
         ConfidenceCoded::Refused(why) => answers::refused(why),
     }

@@ -8,6 +8,7 @@ use crate::widths::Unsigned8;
 use crate::widths::Unsigned16;
 use crate::widths::Unsigned32;
 use angles::AngleReported;
+use confidences::ConfidenceReported;
 use coordinates::CoordinateReported;
 use ground::AltitudeCode;
 use ground::AltitudeUncertaintyCode;
@@ -26,9 +27,8 @@ use ground::UncertaintySpeed;
 use ground::UncertaintySpeedCode;
 use ground::VerticalSpeedCode;
 use ground::Whole;
+use lengths::AltitudeReported;
 use radii::RadiusReported;
-use steps::AltitudeReported;
-use steps::ConfidenceReported;
 use text::Numeral;
 
 // A code's sign, and the numeral after it.
@@ -133,7 +133,7 @@ fn radius(reported: RadiusReported) -> Printed {
 fn altitude(code: SignRead) -> Printed {
     match code {
         SignRead::Sign(sign, n) => match widths::unsigned_16(n, 7) {
-            Unsigned16::Number(x) => height(steps::reported_altitude(AltitudeCode(sign, x))),
+            Unsigned16::Number(x) => height(lengths::reported_altitude(AltitudeCode(sign, x))),
             Unsigned16::Else(printed) => printed,
         },
         SignRead::Else(printed) => printed,
@@ -149,7 +149,7 @@ fn height(reported: AltitudeReported) -> Printed {
 
 fn inner_radius(n: Numeral) -> Printed {
     match widths::unsigned_16(n, 7) {
-        Unsigned16::Number(x) => answers::one(steps::reported_inner_radius(InnerRadiusCode(x)).0),
+        Unsigned16::Number(x) => answers::one(lengths::reported_inner_radius(InnerRadiusCode(x)).0),
         Unsigned16::Else(printed) => printed,
     }
 }
@@ -192,7 +192,7 @@ fn angle(reported: AngleReported) -> Printed {
 fn horizontal_speed(n: Numeral) -> Printed {
     match widths::unsigned_16(n, 7) {
         Unsigned16::Number(x) => answers::one(
-            steps::reported_horizontal_speed(HorizontalSpeedCode(x)).0,
+            speeds::reported_horizontal_speed(HorizontalSpeedCode(x)).0,
         ),
         Unsigned16::Else(printed) => printed,
     }
@@ -202,7 +202,7 @@ fn vertical_speed(code: SignRead) -> Printed {
     match code {
         SignRead::Sign(sign, n) => match widths::unsigned_8(n, 7) {
             Unsigned8::Number(x) => {
-                answers::signed(steps::reported_vertical_speed(VerticalSpeedCode(sign, x)).0)
+                answers::signed(speeds::reported_vertical_speed(VerticalSpeedCode(sign, x)).0)
             }
             Unsigned8::Else(printed) => printed,
         },
@@ -212,7 +212,7 @@ fn vertical_speed(code: SignRead) -> Printed {
 
 fn uncertainty_speed(n: Numeral) -> Printed {
     match widths::unsigned_8(n, 7) {
-        Unsigned8::Number(x) => match steps::reported_uncertainty_speed(UncertaintySpeedCode(x)) {
+        Unsigned8::Number(x) => match speeds::reported_uncertainty_speed(UncertaintySpeedCode(x)) {
             UncertaintySpeed::Speed(speed) => answers::one(speed.0),
             UncertaintySpeed::Missing => Printed::Missing,
         },
@@ -222,7 +222,7 @@ fn uncertainty_speed(n: Numeral) -> Printed {
 
 fn confidence(n: Numeral) -> Printed {
     match widths::unsigned_8(n, 6) {
-        Unsigned8::Number(x) => match steps::reported_confidence(ConfidenceCode(x)) {
+        Unsigned8::Number(x) => match confidences::reported_confidence(ConfidenceCode(x)) {
             ConfidenceReported::Confidence(asked) => per_cent(asked),
             ConfidenceReported::Refused(why) => answers::refused(why),
         },

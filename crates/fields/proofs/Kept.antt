@@ -8,7 +8,7 @@ use Rattle.ground.specs.Steps.{SpeedStep}
 use Rattle.ground.specs.declared.quantities.UncertaintySpeed.the-variants as uncertain
 use Rattle.radii.specs.Covering.{Covers}
 use Rattle.radii.proofs.CoverLaws.{covers-up, covers-next}
-use Rattle.steps.specs.Speeds.{SpeedCovers}
+use Rattle.speeds.specs.Speeds.{SpeedCovers}
 use Rattle.fields.specs.Fields.{Field, latitude, longitude, uncertainty, altitudeUncertainty, altitude, innerRadius, offset, included, orientation, bearing, horizontalSpeed, verticalSpeed, uncertaintySpeed, confidence, CodeOf, QuantityOf, Coding, Reporting}
 use Rattle.fields.specs.Travels.{Travels, stays, goes}
 use Rattle.fields.proofs.SetLaws.{greatest-least, own-step}

@@ -15,8 +15,8 @@ use Rattle.ground.specs.declared.quantities.UncertaintySpeed.the-variants.{Spee
 use Rattle.ground.specs.declared.quantities.Confidence.{Confidence}
 use Rattle.ground.specs.declared.quantities.Confidence.the-variants as confident
 use Rattle.ground.specs.declared.quantities.Confidence.the-variants.{PerCent}
-use Rattle.steps.specs.Speeds.{UncertaintySpeedReporting}
-use Rattle.steps.specs.Confidences.{ConfidenceSet}
+use Rattle.speeds.specs.Speeds.{UncertaintySpeedReporting}
+use Rattle.confidences.specs.Confidences.{ConfidenceSet}
 use Rattle.radii.proofs.CoverLaws.{covers-up}
 use Rattle.coordinates.specs.Latitude.{LatitudeStep}
 use Rattle.fields.specs.Fields.{Field, latitude, longitude, uncertainty, altitudeUncertainty, altitude, innerRadius, offset, included, orientation, bearing, horizontalSpeed, verticalSpeed, uncertaintySpeed, confidence, CodeOf, QuantityOf, Coding, Reporting}

@@ -12,13 +12,13 @@ use Rattle.angles.specs.declared.OffsetCoded.the-variants as offset-coded
 use Rattle.angles.specs.declared.IncludedCoded.the-variants as included-coded
 use Rattle.angles.specs.declared.OrientationCoded.the-variants as orientation-coded
 use Rattle.angles.specs.declared.BearingCoded.the-variants as bearing-coded
-use Rattle.steps.specs.declared.speeds.UncertaintySpeedCoded.the-variants as uncertaintySpeed-coded
-use Rattle.steps.specs.declared.confidences.ConfidenceCoded.the-variants as confidence-coded
+use Rattle.speeds.specs.declared.UncertaintySpeedCoded.the-variants as uncertaintySpeed-coded
+use Rattle.confidences.specs.declared.ConfidenceCoded.the-variants as confidence-coded
 use Rattle.coordinates.specs.declared.CoordinateReported.the-variants as coordinate-reported
 use Rattle.radii.specs.declared.RadiusReported.the-variants as radius-reported
-use Rattle.steps.specs.declared.lengths.AltitudeReported.the-variants as height-reported
+use Rattle.lengths.specs.declared.AltitudeReported.the-variants as height-reported
 use Rattle.angles.specs.declared.AngleReported.the-variants as angle-reported
-use Rattle.steps.specs.declared.confidences.ConfidenceReported.the-variants as sure-reported
+use Rattle.confidences.specs.declared.ConfidenceReported.the-variants as sure-reported
 use Rattle.ground.specs.declared.quantities.UncertaintySpeed.the-variants as uncertain
 use Rattle.fields.specs.Fields.{Field, latitude, longitude, uncertainty, altitudeUncertainty, altitude, innerRadius, offset, included, orientation, bearing, horizontalSpeed, verticalSpeed, uncertaintySpeed, confidence, CodeOf, QuantityOf, Coding, Reporting, CodedOf, saidCode, ReportedOf, saidQuantity}
 use Rattle.fields.proofs.OneAnswer.{coding-one, reporting-one}

@@ -33,17 +33,17 @@ use Rattle.angles.specs.declared.IncludedCoded.{IncludedCoded}
 use Rattle.angles.specs.declared.OrientationCoded.{OrientationCoded}
 use Rattle.angles.specs.declared.BearingCoded.{BearingCoded}
 use Rattle.angles.specs.declared.AngleReported.{AngleReported}
-use Rattle.steps.specs.declared.lengths.AltitudeReported.{AltitudeReported}
-use Rattle.steps.specs.declared.speeds.UncertaintySpeedCoded.{UncertaintySpeedCoded}
-use Rattle.steps.specs.declared.confidences.ConfidenceCoded.{ConfidenceCoded}
-use Rattle.steps.specs.declared.confidences.ConfidenceReported.{ConfidenceReported}
+use Rattle.lengths.specs.declared.AltitudeReported.{AltitudeReported}
+use Rattle.speeds.specs.declared.UncertaintySpeedCoded.{UncertaintySpeedCoded}
+use Rattle.confidences.specs.declared.ConfidenceCoded.{ConfidenceCoded}
+use Rattle.confidences.specs.declared.ConfidenceReported.{ConfidenceReported}
 use Rattle.coordinates.specs.Latitude.{LatitudeCoding, LatitudeReporting, saidLatitude, saidCoordinate}
 use Rattle.coordinates.specs.Longitude.{LongitudeCoding, LongitudeReporting, saidLongitude}
 use Rattle.radii.specs.Radii.{UncertaintyCoding, UncertaintyReporting, AltitudeUncertaintyCoding, AltitudeUncertaintyReporting, saidUncertainty, saidAltitudeUncertainty, saidRadius}
 use Rattle.angles.specs.Angles.{OffsetCoding, OffsetReporting, IncludedCoding, IncludedReporting, OrientationCoding, OrientationReporting, BearingCoding, BearingReporting, saidOffset, saidIncluded, saidOrientation, saidBearing, saidAngle}
-use Rattle.steps.specs.Lengths.{AltitudeSet, AltitudeReporting, saidAltitude, InnerRadiusSet, InnerRadiusReporting}
-use Rattle.steps.specs.Speeds.{HorizontalSpeedSet, HorizontalSpeedReporting, VerticalSpeedSet, VerticalSpeedReporting, UncertaintySpeedCoding, UncertaintySpeedReporting, saidUncertaintySpeed}
-use Rattle.steps.specs.Confidences.{ConfidenceCoding, ConfidenceReporting, saidConfidenceCode, saidConfidence}
+use Rattle.lengths.specs.Lengths.{AltitudeSet, AltitudeReporting, saidAltitude, InnerRadiusSet, InnerRadiusReporting}
+use Rattle.speeds.specs.Speeds.{HorizontalSpeedSet, HorizontalSpeedReporting, VerticalSpeedSet, VerticalSpeedReporting, UncertaintySpeedCoding, UncertaintySpeedReporting, saidUncertaintySpeed}
+use Rattle.confidences.specs.Confidences.{ConfidenceCoding, ConfidenceReporting, saidConfidenceCode, saidConfidence}
 
 pub data Field : Type 0 where
   latitude : Field

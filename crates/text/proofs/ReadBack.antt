@@ -7,12 +7,10 @@ use Prim.Native.Nat.{ℕ, zero, suc, _+_, _*_, _-_, _/_, _%_, _^_, _≤_, _<_}
 use native.Mathlib.Nat.{min-eq-left}
 use native.Mathlib.Omega.{arith}
 use lib.IntN.{ℤ, pos, negsuc}
-use lib.ListN.{length}
 use borrow.Author.Tests.{lt-ltb, le-ltb, ne-eqb}
 use mir.Syntax.{w64}
 use mir.Val.{SFits}
 use Rattle.ground.specs.Signs.{partsOf}
-use Rattle.text.specs.declared.numerals.Numeral.{Numeral}
 use Rattle.text.specs.declared.numerals.Numeral.the-variants.{Number}
 use Rattle.text.specs.Text.{decimal, signedDecimal}
 use Rattle.text.specs.Numerals.{numberFrom, digitsOf, numeralOf}

@@ -4,12 +4,12 @@ use native.Mathlib.Omega.{arith}
 use native.Mathlib.Numerals.{add-one}
 use native.Mathlib.Nat.{add-assoc}
 use Prim.Native.Nat.{ℕ, _≤_, _<_, _+_, _-_}
-use mathlib.Core.Path.{_≡_, refl}
+use mathlib.Core.Path.{_≡_}
 use mathlib.Core.List.{List}
 use lib.ListN.{length, take, getD, set, length-set}
-use lib.Seq.{take-suc, take-length, take-all}
+use lib.Seq.{take-suc, take-all}
 use Rattle.text.specs.Text.{Puts}
-use Rattle.text.proofs.OutputLaws.{then, none, one, kept}
+use Rattle.text.proofs.OutputLaws.{then, one}
 use Rattle.text.proofs.output.put_bytes.Statement.{statement}
 use Rattle.text.proofs.output.put_bytes.Tie as tie
 

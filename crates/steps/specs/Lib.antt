@@ -1,3 +1,0 @@
-pub mod Lengths
-pub mod Speeds
-pub mod Confidences
