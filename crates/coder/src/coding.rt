@@ -51,133 +51,125 @@ pub fn coded(name: Name, field: &[u8]) -> Printed {
 }
 
 fn latitude(n: Numeral) -> Printed {
-    match widths::signed_64(n) {
-        Signed64::Number(x) => match coordinates::latitude_code(Nanodegrees(x)) {
-            LatitudeCoded::Code(c) => answers::two(c.0, c.1),
-            LatitudeCoded::Refused(why) => answers::refused(why),
-        },
-        Signed64::Else(printed) => printed,
+    let Signed64::Number(x) = widths::signed_64(n) else {
+        return Printed::Unreadable;
+    };
+    match coordinates::latitude_code(Nanodegrees(x)) {
+        LatitudeCoded::Code(c) => answers::two(c.0, c.1),
+        LatitudeCoded::Refused(why) => answers::refused(why),
     }
 }
 
 fn longitude(n: Numeral) -> Printed {
-    match widths::signed_64(n) {
-        Signed64::Number(x) => match coordinates::longitude_code(Nanodegrees(x)) {
-            LongitudeCoded::Code(c) => answers::signed(c.0),
-            LongitudeCoded::Refused(why) => answers::refused(why),
-        },
-        Signed64::Else(printed) => printed,
+    let Signed64::Number(x) = widths::signed_64(n) else {
+        return Printed::Unreadable;
+    };
+    match coordinates::longitude_code(Nanodegrees(x)) {
+        LongitudeCoded::Code(c) => answers::signed(c.0),
+        LongitudeCoded::Refused(why) => answers::refused(why),
     }
 }
 
 fn uncertainty(n: Numeral) -> Printed {
-    match widths::unsigned_32(n, Printed::Unreadable) {
-        Unsigned32::Number(x) => match radii::uncertainty_code(Millimetres(x)) {
-            UncertaintyCoded::Code(c) => answers::one(c.0 as u32),
-            UncertaintyCoded::Refused(why) => answers::refused(why),
-        },
-        Unsigned32::Else(printed) => printed,
+    let Unsigned32::Number(x) = widths::unsigned_32(n) else {
+        return Printed::Unreadable;
+    };
+    match radii::uncertainty_code(Millimetres(x)) {
+        UncertaintyCoded::Code(c) => answers::one(c.0 as u32),
+        UncertaintyCoded::Refused(why) => answers::refused(why),
     }
 }
 
 fn altitude_uncertainty(n: Numeral) -> Printed {
-    match widths::unsigned_32(n, Printed::Unreadable) {
-        Unsigned32::Number(x) => match radii::altitude_uncertainty_code(Millimetres(x)) {
-            AltitudeUncertaintyCoded::Code(c) => answers::one(c.0 as u32),
-            AltitudeUncertaintyCoded::Refused(why) => answers::refused(why),
-        },
-        Unsigned32::Else(printed) => printed,
+    let Unsigned32::Number(x) = widths::unsigned_32(n) else {
+        return Printed::Unreadable;
+    };
+    match radii::altitude_uncertainty_code(Millimetres(x)) {
+        AltitudeUncertaintyCoded::Code(c) => answers::one(c.0 as u32),
+        AltitudeUncertaintyCoded::Refused(why) => answers::refused(why),
     }
 }
 
 fn altitude(n: Numeral) -> Printed {
-    match widths::signed_32(n, Printed::Unreadable) {
-        Signed32::Number(x) => {
-            let c = lengths::altitude_code(SignedMillimetres(x));
-            answers::two(c.0, c.1 as u32)
-        }
-        Signed32::Else(printed) => printed,
-    }
+    let Signed32::Number(x) = widths::signed_32(n) else {
+        return Printed::Unreadable;
+    };
+    let c = lengths::altitude_code(SignedMillimetres(x));
+    answers::two(c.0, c.1 as u32)
 }
 
 fn inner_radius(n: Numeral) -> Printed {
-    match widths::unsigned_32(n, Printed::Unreadable) {
-        Unsigned32::Number(x) => {
-            let c = lengths::inner_radius_code(Millimetres(x));
-            answers::one(c.0 as u32)
-        }
-        Unsigned32::Else(printed) => printed,
-    }
+    let Unsigned32::Number(x) = widths::unsigned_32(n) else {
+        return Printed::Unreadable;
+    };
+    let c = lengths::inner_radius_code(Millimetres(x));
+    answers::one(c.0 as u32)
 }
 
 fn offset(n: Numeral) -> Printed {
-    match widths::unsigned_32(n, Printed::Unreadable) {
-        Unsigned32::Number(x) => match angles::offset_code(Millidegrees(x)) {
-            OffsetCoded::Code(c) => answers::one(c.0 as u32),
-            OffsetCoded::Refused(why) => answers::refused(why),
-        },
-        Unsigned32::Else(printed) => printed,
+    let Unsigned32::Number(x) = widths::unsigned_32(n) else {
+        return Printed::Unreadable;
+    };
+    match angles::offset_code(Millidegrees(x)) {
+        OffsetCoded::Code(c) => answers::one(c.0 as u32),
+        OffsetCoded::Refused(why) => answers::refused(why),
     }
 }
 
 fn included(n: Numeral) -> Printed {
-    match widths::unsigned_32(n, Printed::Unreadable) {
-        Unsigned32::Number(x) => match angles::included_code(Millidegrees(x)) {
-            IncludedCoded::Code(c) => answers::one(c.0 as u32),
-            IncludedCoded::Refused(why) => answers::refused(why),
-        },
-        Unsigned32::Else(printed) => printed,
+    let Unsigned32::Number(x) = widths::unsigned_32(n) else {
+        return Printed::Unreadable;
+    };
+    match angles::included_code(Millidegrees(x)) {
+        IncludedCoded::Code(c) => answers::one(c.0 as u32),
+        IncludedCoded::Refused(why) => answers::refused(why),
     }
 }
 
 fn orientation(n: Numeral) -> Printed {
-    match widths::unsigned_32(n, Printed::Unreadable) {
-        Unsigned32::Number(x) => match angles::orientation_code(Millidegrees(x)) {
-            OrientationCoded::Code(c) => answers::one(c.0 as u32),
-            OrientationCoded::Refused(why) => answers::refused(why),
-        },
-        Unsigned32::Else(printed) => printed,
+    let Unsigned32::Number(x) = widths::unsigned_32(n) else {
+        return Printed::Unreadable;
+    };
+    match angles::orientation_code(Millidegrees(x)) {
+        OrientationCoded::Code(c) => answers::one(c.0 as u32),
+        OrientationCoded::Refused(why) => answers::refused(why),
     }
 }
 
 fn bearing(n: Numeral) -> Printed {
-    match widths::unsigned_32(n, Printed::Unreadable) {
-        Unsigned32::Number(x) => match angles::bearing_code(Millidegrees(x)) {
-            BearingCoded::Code(c) => answers::one(c.0 as u32),
-            BearingCoded::Refused(why) => answers::refused(why),
-        },
-        Unsigned32::Else(printed) => printed,
+    let Unsigned32::Number(x) = widths::unsigned_32(n) else {
+        return Printed::Unreadable;
+    };
+    match angles::bearing_code(Millidegrees(x)) {
+        BearingCoded::Code(c) => answers::one(c.0 as u32),
+        BearingCoded::Refused(why) => answers::refused(why),
     }
 }
 
 fn horizontal_speed(n: Numeral) -> Printed {
-    match widths::unsigned_32(n, Printed::Unreadable) {
-        Unsigned32::Number(x) => {
-            let c = speeds::horizontal_speed_code(MetresPerHour(x));
-            answers::one(c.0 as u32)
-        }
-        Unsigned32::Else(printed) => printed,
-    }
+    let Unsigned32::Number(x) = widths::unsigned_32(n) else {
+        return Printed::Unreadable;
+    };
+    let c = speeds::horizontal_speed_code(MetresPerHour(x));
+    answers::one(c.0 as u32)
 }
 
 fn vertical_speed(n: Numeral) -> Printed {
-    match widths::signed_32(n, Printed::Unreadable) {
-        Signed32::Number(x) => {
-            let c = speeds::vertical_speed_code(SignedMetresPerHour(x));
-            answers::two(c.0, c.1 as u32)
-        }
-        Signed32::Else(printed) => printed,
-    }
+    let Signed32::Number(x) = widths::signed_32(n) else {
+        return Printed::Unreadable;
+    };
+    let c = speeds::vertical_speed_code(SignedMetresPerHour(x));
+    answers::two(c.0, c.1 as u32)
 }
 
 fn uncertainty_speed(missing: bool, n: Numeral) -> Printed {
     if missing {
         return speed_code(UncertaintySpeed::Missing);
     }
-    match widths::unsigned_32(n, Printed::Unreadable) {
-        Unsigned32::Number(x) => speed_code(UncertaintySpeed::Speed(MetresPerHour(x))),
-        Unsigned32::Else(printed) => printed,
-    }
+    let Unsigned32::Number(x) = widths::unsigned_32(n) else {
+        return Printed::Unreadable;
+    };
+    speed_code(UncertaintySpeed::Speed(MetresPerHour(x)))
 }
 
 fn speed_code(uncertainty: UncertaintySpeed) -> Printed {
@@ -191,10 +183,10 @@ fn confidence(missing: bool, n: Numeral) -> Printed {
     if missing {
         return per_cent_code(Confidence::Missing);
     }
-    match widths::unsigned_32(n, Printed::Unreadable) {
-        Unsigned32::Number(x) => per_cent_code(Confidence::PerCent(x)),
-        Unsigned32::Else(printed) => printed,
-    }
+    let Unsigned32::Number(x) = widths::unsigned_32(n) else {
+        return Printed::Unreadable;
+    };
+    per_cent_code(Confidence::PerCent(x))
 }
 
 fn per_cent_code(confidence: Confidence) -> Printed {

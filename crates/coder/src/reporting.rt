@@ -4,9 +4,7 @@ use crate::answers::Printed;
 use crate::names::Name;
 use crate::widths;
 use crate::widths::Signed32;
-use crate::widths::Unsigned8;
-use crate::widths::Unsigned16;
-use crate::widths::Unsigned32;
+use crate::widths::Size;
 use angles::AngleReported;
 use confidences::ConfidenceReported;
 use coordinates::CoordinateReported;
@@ -31,73 +29,100 @@ use lengths::AltitudeReported;
 use radii::RadiusReported;
 use text::Numeral;
 
-// A code's sign, and the numeral after it.
-enum SignRead {
-    Sign(bool, Numeral),
-    Else(Printed),
+// A code of a sign and a size.
+enum SignedCode {
+    Code(bool, u64),
+    // a number that is not 0 or 1 for a sign, or a size below zero
+    Outside,
+    Nothing,
 }
 
 pub fn reported(name: Name, fields: &[u8]) -> Printed {
-    let n = text::number_in(fields);
+    let size = widths::size_of(text::number_in(fields));
     match name {
-        Name::Latitude => latitude(sign_read(fields)),
-        Name::Longitude => longitude(n),
-        Name::Uncertainty => uncertainty(n),
-        Name::AltitudeUncertainty => altitude_uncertainty(n),
-        Name::Altitude => altitude(sign_read(fields)),
-        Name::InnerRadius => inner_radius(n),
-        Name::Offset => offset(n),
-        Name::Included => included(n),
-        Name::Orientation => orientation(n),
-        Name::Bearing => bearing(n),
-        Name::HorizontalSpeed => horizontal_speed(n),
-        Name::VerticalSpeed => vertical_speed(sign_read(fields)),
-        Name::UncertaintySpeed => uncertainty_speed(n),
-        Name::Confidence => confidence(n),
+        Name::Latitude => latitude(signed_code(fields)),
+        Name::Longitude => longitude(text::number_in(fields)),
+        Name::Uncertainty => uncertainty(size),
+        Name::AltitudeUncertainty => altitude_uncertainty(size),
+        Name::Altitude => altitude(signed_code(fields)),
+        Name::InnerRadius => inner_radius(size),
+        Name::Offset => offset(size),
+        Name::Included => included(size),
+        Name::Orientation => orientation(size),
+        Name::Bearing => bearing(size),
+        Name::HorizontalSpeed => horizontal_speed(size),
+        Name::VerticalSpeed => vertical_speed(signed_code(fields)),
+        Name::UncertaintySpeed => uncertainty_speed(size),
+        Name::Confidence => confidence(size),
         Name::Unknown => Printed::Unreadable,
     }
 }
 
-// Two numbers. A first number that is not 0 or 1 is a code outside its field.
-fn sign_read(fields: &[u8]) -> SignRead {
+// Two numbers.
+fn signed_code(fields: &[u8]) -> SignedCode {
     let end = text::field_end(fields, 0);
     if end == fields.len() {
-        return SignRead::Else(Printed::Unreadable);
+        return SignedCode::Nothing;
     }
     let from = end + 1;
-    let n = text::number_in(&fields[from..]);
-    let Numeral::Number(_) = n else {
-        return SignRead::Else(Printed::Unreadable);
-    };
-    match widths::unsigned_8(text::number_in(&fields[0..end]), 7) {
-        Unsigned8::Number(sign) => {
-            if 1 < sign {
-                return SignRead::Else(Printed::Refused(7));
+    let sign = widths::size_of(text::number_in(&fields[0..end]));
+    let size = widths::size_of(text::number_in(&fields[from..]));
+    joined(sign, size)
+}
+
+fn joined(sign: Size, size: Size) -> SignedCode {
+    match size {
+        Size::Code(n) => match sign {
+            Size::Code(s) => {
+                if 1 < s {
+                    return SignedCode::Outside;
+                }
+                SignedCode::Code(s == 1, n)
             }
-            SignRead::Sign(sign == 1, n)
-        }
-        Unsigned8::Else(printed) => SignRead::Else(printed),
+            Size::Below => SignedCode::Outside,
+            Size::Nothing => SignedCode::Nothing,
+        },
+        Size::Below => match sign {
+            Size::Code(_) => SignedCode::Outside,
+            Size::Below => SignedCode::Outside,
+            Size::Nothing => SignedCode::Nothing,
+        },
+        Size::Nothing => SignedCode::Nothing,
     }
 }
 
-fn latitude(code: SignRead) -> Printed {
+// A number that is no code of any field is outside it.
+fn no_signed_code(code: SignedCode) -> Printed {
     match code {
-        SignRead::Sign(sign, n) => match widths::unsigned_32(n, Printed::Refused(7)) {
-            Unsigned32::Number(x) => coordinate(coordinates::reported_latitude(LatitudeCode(
-                sign,
-                x,
-            ))),
-            Unsigned32::Else(printed) => printed,
-        },
-        SignRead::Else(printed) => printed,
+        SignedCode::Code(_, _) => Printed::Refused(7),
+        SignedCode::Outside => Printed::Refused(7),
+        SignedCode::Nothing => Printed::Unreadable,
     }
+}
+
+fn no_code(size: Size) -> Printed {
+    match size {
+        Size::Code(_) => Printed::Refused(7),
+        Size::Below => Printed::Refused(7),
+        Size::Nothing => Printed::Unreadable,
+    }
+}
+
+fn latitude(code: SignedCode) -> Printed {
+    let SignedCode::Code(south, n) = code else {
+        return no_signed_code(code);
+    };
+    if 4294967295 < n {
+        return Printed::Refused(7);
+    }
+    coordinate(coordinates::reported_latitude(LatitudeCode(south, n as u32)))
 }
 
 fn longitude(n: Numeral) -> Printed {
-    match widths::signed_32(n, Printed::Refused(7)) {
-        Signed32::Number(x) => coordinate(coordinates::reported_longitude(LongitudeCode(x))),
-        Signed32::Else(printed) => printed,
-    }
+    let Signed32::Number(x) = widths::signed_32(n) else {
+        return no_code(widths::size_of(n));
+    };
+    coordinate(coordinates::reported_longitude(LongitudeCode(x)))
 }
 
 fn coordinate(reported: CoordinateReported) -> Printed {
@@ -107,20 +132,24 @@ fn coordinate(reported: CoordinateReported) -> Printed {
     }
 }
 
-fn uncertainty(n: Numeral) -> Printed {
-    match widths::unsigned_8(n, 7) {
-        Unsigned8::Number(x) => radius(radii::reported_uncertainty(UncertaintyCode(x))),
-        Unsigned8::Else(printed) => printed,
+fn uncertainty(size: Size) -> Printed {
+    let Size::Code(k) = size else {
+        return no_code(size);
+    };
+    if 255 < k {
+        return Printed::Refused(7);
     }
+    radius(radii::reported_uncertainty(UncertaintyCode(k as u8)))
 }
 
-fn altitude_uncertainty(n: Numeral) -> Printed {
-    match widths::unsigned_8(n, 7) {
-        Unsigned8::Number(x) => radius(radii::reported_altitude_uncertainty(AltitudeUncertaintyCode(
-            x,
-        ))),
-        Unsigned8::Else(printed) => printed,
+fn altitude_uncertainty(size: Size) -> Printed {
+    let Size::Code(k) = size else {
+        return no_code(size);
+    };
+    if 255 < k {
+        return Printed::Refused(7);
     }
+    radius(radii::reported_altitude_uncertainty(AltitudeUncertaintyCode(k as u8)))
 }
 
 fn radius(reported: RadiusReported) -> Printed {
@@ -130,14 +159,14 @@ fn radius(reported: RadiusReported) -> Printed {
     }
 }
 
-fn altitude(code: SignRead) -> Printed {
-    match code {
-        SignRead::Sign(sign, n) => match widths::unsigned_16(n, 7) {
-            Unsigned16::Number(x) => height(lengths::reported_altitude(AltitudeCode(sign, x))),
-            Unsigned16::Else(printed) => printed,
-        },
-        SignRead::Else(printed) => printed,
+fn altitude(code: SignedCode) -> Printed {
+    let SignedCode::Code(depth, n) = code else {
+        return no_signed_code(code);
+    };
+    if 65535 < n {
+        return Printed::Refused(7);
     }
+    height(lengths::reported_altitude(AltitudeCode(depth, n as u16)))
 }
 
 fn height(reported: AltitudeReported) -> Printed {
@@ -147,39 +176,54 @@ fn height(reported: AltitudeReported) -> Printed {
     }
 }
 
-fn inner_radius(n: Numeral) -> Printed {
-    match widths::unsigned_16(n, 7) {
-        Unsigned16::Number(x) => answers::one(lengths::reported_inner_radius(InnerRadiusCode(x)).0),
-        Unsigned16::Else(printed) => printed,
+fn inner_radius(size: Size) -> Printed {
+    let Size::Code(n) = size else {
+        return no_code(size);
+    };
+    if 65535 < n {
+        return Printed::Refused(7);
     }
+    answers::one(lengths::reported_inner_radius(InnerRadiusCode(n as u16)).0)
 }
 
-fn offset(n: Numeral) -> Printed {
-    match widths::unsigned_8(n, 5) {
-        Unsigned8::Number(x) => angle(angles::reported_offset(OffsetCode(x))),
-        Unsigned8::Else(printed) => printed,
+fn offset(size: Size) -> Printed {
+    let Size::Code(n) = size else {
+        return no_code(size);
+    };
+    if 255 < n {
+        return Printed::Refused(5);
     }
+    angle(angles::reported_offset(OffsetCode(n as u8)))
 }
 
-fn included(n: Numeral) -> Printed {
-    match widths::unsigned_8(n, 5) {
-        Unsigned8::Number(x) => angle(angles::reported_included(IncludedCode(x))),
-        Unsigned8::Else(printed) => printed,
+fn included(size: Size) -> Printed {
+    let Size::Code(n) = size else {
+        return no_code(size);
+    };
+    if 255 < n {
+        return Printed::Refused(5);
     }
+    angle(angles::reported_included(IncludedCode(n as u8)))
 }
 
-fn orientation(n: Numeral) -> Printed {
-    match widths::unsigned_8(n, 5) {
-        Unsigned8::Number(x) => angle(angles::reported_orientation(OrientationCode(x))),
-        Unsigned8::Else(printed) => printed,
+fn orientation(size: Size) -> Printed {
+    let Size::Code(n) = size else {
+        return no_code(size);
+    };
+    if 255 < n {
+        return Printed::Refused(5);
     }
+    angle(angles::reported_orientation(OrientationCode(n as u8)))
 }
 
-fn bearing(n: Numeral) -> Printed {
-    match widths::unsigned_16(n, 5) {
-        Unsigned16::Number(x) => angle(angles::reported_bearing(BearingCode(x))),
-        Unsigned16::Else(printed) => printed,
+fn bearing(size: Size) -> Printed {
+    let Size::Code(n) = size else {
+        return no_code(size);
+    };
+    if 65535 < n {
+        return Printed::Refused(5);
     }
+    angle(angles::reported_bearing(BearingCode(n as u16)))
 }
 
 fn angle(reported: AngleReported) -> Printed {
@@ -189,44 +233,49 @@ fn angle(reported: AngleReported) -> Printed {
     }
 }
 
-fn horizontal_speed(n: Numeral) -> Printed {
-    match widths::unsigned_16(n, 7) {
-        Unsigned16::Number(x) => answers::one(
-            speeds::reported_horizontal_speed(HorizontalSpeedCode(x)).0,
-        ),
-        Unsigned16::Else(printed) => printed,
+fn horizontal_speed(size: Size) -> Printed {
+    let Size::Code(n) = size else {
+        return no_code(size);
+    };
+    if 65535 < n {
+        return Printed::Refused(7);
+    }
+    answers::one(speeds::reported_horizontal_speed(HorizontalSpeedCode(n as u16)).0)
+}
+
+fn vertical_speed(code: SignedCode) -> Printed {
+    let SignedCode::Code(down, n) = code else {
+        return no_signed_code(code);
+    };
+    if 255 < n {
+        return Printed::Refused(7);
+    }
+    answers::signed(speeds::reported_vertical_speed(VerticalSpeedCode(down, n as u8)).0)
+}
+
+fn uncertainty_speed(size: Size) -> Printed {
+    let Size::Code(n) = size else {
+        return no_code(size);
+    };
+    if 255 < n {
+        return Printed::Refused(7);
+    }
+    match speeds::reported_uncertainty_speed(UncertaintySpeedCode(n as u8)) {
+        UncertaintySpeed::Speed(speed) => answers::one(speed.0),
+        UncertaintySpeed::Missing => Printed::Missing,
     }
 }
 
-fn vertical_speed(code: SignRead) -> Printed {
-    match code {
-        SignRead::Sign(sign, n) => match widths::unsigned_8(n, 7) {
-            Unsigned8::Number(x) => {
-                answers::signed(speeds::reported_vertical_speed(VerticalSpeedCode(sign, x)).0)
-            }
-            Unsigned8::Else(printed) => printed,
-        },
-        SignRead::Else(printed) => printed,
+fn confidence(size: Size) -> Printed {
+    let Size::Code(n) = size else {
+        return no_code(size);
+    };
+    if 255 < n {
+        return Printed::Refused(6);
     }
-}
-
-fn uncertainty_speed(n: Numeral) -> Printed {
-    match widths::unsigned_8(n, 7) {
-        Unsigned8::Number(x) => match speeds::reported_uncertainty_speed(UncertaintySpeedCode(x)) {
-            UncertaintySpeed::Speed(speed) => answers::one(speed.0),
-            UncertaintySpeed::Missing => Printed::Missing,
-        },
-        Unsigned8::Else(printed) => printed,
-    }
-}
-
-fn confidence(n: Numeral) -> Printed {
-    match widths::unsigned_8(n, 6) {
-        Unsigned8::Number(x) => match confidences::reported_confidence(ConfidenceCode(x)) {
-            ConfidenceReported::Confidence(asked) => per_cent(asked),
-            ConfidenceReported::Refused(why) => answers::refused(why),
-        },
-        Unsigned8::Else(printed) => printed,
+    match confidences::reported_confidence(ConfidenceCode(n as u8)) {
+        ConfidenceReported::Confidence(told) => per_cent(told),
+        ConfidenceReported::Refused(why) => answers::refused(why),
     }
 }
 
