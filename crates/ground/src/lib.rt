@@ -4,6 +4,7 @@ mod codes;
 mod quantities;
 mod refusals;
 mod signs;
+mod told;
 
 pub use codes::AltitudeCode;
 pub use codes::AltitudeUncertaintyCode;
@@ -32,3 +33,4 @@ pub use signs::Parts;
 pub use signs::Whole;
 pub use signs::joined;
 pub use signs::taken_apart;
+pub use told::Told;

@@ -1,0 +1,26 @@
+-- `coding::told::altitude_uncertainty` meets its contract, in each arm for the answer that it matched. Assumes nothing.
+use mathlib.Core.Path.{sym, ap}
+use Rattle.coding.specs.Tells.{toldCode}
+use Rattle.fields.specs.Fields.{altitudeUncertainty}
+use borrow.Author.Needs.{needs}
+use Rattle.coding.proofs.told.altitude_uncertainty.Statement.{statement}
+use Rattle.coding.proofs.told.altitude_uncertainty.Tie as tie
+
+enum-known-coded : tie.Need-enum-known-coded
+enum-known-coded c = search needs
+
+cast-t5 : tie.Need-cast-t5
+cast-t5 c = search needs
+
+enum-known-coded-2 : tie.Need-enum-known-coded-2
+enum-known-coded-2 c = search needs
+
+returns : tie.Need-returns
+returns c = sym (ap (toldCode altitudeUncertainty) (c .before .before .coded .given .1))
+
+returns-2 : tie.Need-returns-2
+returns-2 c = sym (ap (toldCode altitudeUncertainty) (c .before .coded2 .given .1))
+
+pub altitude-uncertainty-spec : {M : Type 1} → statement M
+altitude-uncertainty-spec =
+    tie.close (tie.spec enum-known-coded cast-t5 enum-known-coded-2 returns returns-2)

@@ -1,0 +1,138 @@
+-- `reporting::reported_byte` meets its contract: each arm tells what its reporter answers. Assumes nothing.
+use mathlib.Core.Path.{subst⁻¹}
+use Rattle.reporting.specs.Tells.{TellsByte}
+use Rattle.reporting.specs.declared.Byte.{Byte}
+use borrow.Author.Needs.{needs}
+use Rattle.reporting.proofs.reported_byte.Statement.{statement}
+use Rattle.reporting.proofs.reported_byte.Tie as tie
+
+enum-told : tie.Need-enum-told
+enum-told c = search needs
+
+reported-uncertainty-requires : tie.Need-reported-uncertainty-requires
+reported-uncertainty-requires c κs = search needs
+
+radius-requires : tie.Need-radius-requires
+radius-requires c κs = search needs
+
+enum-told-2 : tie.Need-enum-told-2
+enum-told-2 c = search needs
+
+reported-altitude-uncertainty-requires : tie.Need-reported-altitude-uncertainty-requires
+reported-altitude-uncertainty-requires c κs = search needs
+
+radius-requires-2 : tie.Need-radius-requires-2
+radius-requires-2 c κs = search needs
+
+enum-told-3 : tie.Need-enum-told-3
+enum-told-3 c = search needs
+
+reported-offset-requires : tie.Need-reported-offset-requires
+reported-offset-requires c κs = search needs
+
+angle-requires : tie.Need-angle-requires
+angle-requires c κs = search needs
+
+enum-told-4 : tie.Need-enum-told-4
+enum-told-4 c = search needs
+
+reported-included-requires : tie.Need-reported-included-requires
+reported-included-requires c κs = search needs
+
+angle-requires-2 : tie.Need-angle-requires-2
+angle-requires-2 c κs = search needs
+
+enum-told-5 : tie.Need-enum-told-5
+enum-told-5 c = search needs
+
+reported-orientation-requires : tie.Need-reported-orientation-requires
+reported-orientation-requires c κs = search needs
+
+angle-requires-3 : tie.Need-angle-requires-3
+angle-requires-3 c κs = search needs
+
+enum-told-6 : tie.Need-enum-told-6
+enum-told-6 c = search needs
+
+reported-uncertainty-speed-requires : tie.Need-reported-uncertainty-speed-requires
+reported-uncertainty-speed-requires c κs = search needs
+
+uncertainty-speed-requires : tie.Need-uncertainty-speed-requires
+uncertainty-speed-requires c κs = search needs
+
+enum-told-7 : tie.Need-enum-told-7
+enum-told-7 c = search needs
+
+reported-confidence-requires : tie.Need-reported-confidence-requires
+reported-confidence-requires c κs = search needs
+
+confidence-requires : tie.Need-confidence-requires
+confidence-requires c κs = search needs
+
+returns : tie.Need-returns
+returns c =
+    subst⁻¹ (λ (k : Byte). TellsByte k (c .before .before .before .before .args .n) (c .radius .result)) (c .before .before .enum-told .given .1)
+    (record { answer = c .before .reported-uncertainty .result; promise = c .before .reported-uncertainty .ensures; told = c .radius .ensures })
+
+returns-2 : tie.Need-returns-2
+returns-2 c =
+    subst⁻¹ (λ (k : Byte). TellsByte k (c .before .before .before .before .args .n) (c .radius2 .result)) (c .before .before .enum-told2 .given .1)
+    (record { answer = c .before .reported-altitude-uncertainty .result; promise = c .before .reported-altitude-uncertainty .ensures; told = c .radius2 .ensures })
+
+returns-3 : tie.Need-returns-3
+returns-3 c =
+    subst⁻¹ (λ (k : Byte). TellsByte k (c .before .before .before .before .args .n) (c .angle .result)) (c .before .before .enum-told3 .given .1)
+    (record { answer = c .before .reported-offset .result; promise = c .before .reported-offset .ensures; told = c .angle .ensures })
+
+returns-4 : tie.Need-returns-4
+returns-4 c =
+    subst⁻¹ (λ (k : Byte). TellsByte k (c .before .before .before .before .args .n) (c .angle2 .result)) (c .before .before .enum-told4 .given .1)
+    (record { answer = c .before .reported-included .result; promise = c .before .reported-included .ensures; told = c .angle2 .ensures })
+
+returns-5 : tie.Need-returns-5
+returns-5 c =
+    subst⁻¹ (λ (k : Byte). TellsByte k (c .before .before .before .before .args .n) (c .angle3 .result)) (c .before .before .enum-told5 .given .1)
+    (record { answer = c .before .reported-orientation .result; promise = c .before .reported-orientation .ensures; told = c .angle3 .ensures })
+
+returns-6 : tie.Need-returns-6
+returns-6 c =
+    subst⁻¹ (λ (k : Byte). TellsByte k (c .before .before .before .before .args .n) (c .uncertainty-speed .result)) (c .before .before .enum-told6 .given .1)
+    (record { answer = c .before .reported-uncertainty-speed .result; promise = c .before .reported-uncertainty-speed .ensures; told = c .uncertainty-speed .ensures })
+
+returns-7 : tie.Need-returns-7
+returns-7 c =
+    subst⁻¹ (λ (k : Byte). TellsByte k (c .before .before .before .before .args .n) (c .confidence .result)) (c .before .before .enum-told7 .given .1)
+    (record { answer = c .before .reported-confidence .result; promise = c .before .reported-confidence .ensures; told = c .confidence .ensures })
+
+pub reported-byte-spec : {M : Type 1} → statement M
+reported-byte-spec =
+    tie.close
+    (tie.spec
+    enum-told
+    reported-uncertainty-requires
+    radius-requires
+    enum-told-2
+    reported-altitude-uncertainty-requires
+    radius-requires-2
+    enum-told-3
+    reported-offset-requires
+    angle-requires
+    enum-told-4
+    reported-included-requires
+    angle-requires-2
+    enum-told-5
+    reported-orientation-requires
+    angle-requires-3
+    enum-told-6
+    reported-uncertainty-speed-requires
+    uncertainty-speed-requires
+    enum-told-7
+    reported-confidence-requires
+    confidence-requires
+    returns
+    returns-2
+    returns-3
+    returns-4
+    returns-5
+    returns-6
+    returns-7)

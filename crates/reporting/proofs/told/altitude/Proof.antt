@@ -1,0 +1,21 @@
+-- `reporting::told::altitude` meets its contract, in each arm for the answer that it matched. Assumes nothing.
+use mathlib.Core.Path.{sym, ap}
+use Rattle.reporting.specs.Tells.{toldAltitude}
+use borrow.Author.Needs.{needs}
+use Rattle.reporting.proofs.told.altitude.Statement.{statement}
+use Rattle.reporting.proofs.told.altitude.Tie as tie
+
+enum-known-reported : tie.Need-enum-known-reported
+enum-known-reported c = search needs
+
+enum-known-reported-2 : tie.Need-enum-known-reported-2
+enum-known-reported-2 c = search needs
+
+returns : tie.Need-returns
+returns c = sym (ap toldAltitude (c .before .reported .given .1))
+
+returns-2 : tie.Need-returns-2
+returns-2 c = sym (ap toldAltitude (c .before .reported2 .given .1))
+
+pub altitude-spec : {M : Type 1} → statement M
+altitude-spec = tie.close (tie.spec enum-known-reported enum-known-reported-2 returns returns-2)

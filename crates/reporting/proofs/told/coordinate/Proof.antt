@@ -1,0 +1,21 @@
+-- `reporting::told::coordinate` meets its contract, in each arm for the answer that it matched. Assumes nothing.
+use mathlib.Core.Path.{sym, ap}
+use Rattle.reporting.specs.Tells.{toldCoordinate}
+use borrow.Author.Needs.{needs}
+use Rattle.reporting.proofs.told.coordinate.Statement.{statement}
+use Rattle.reporting.proofs.told.coordinate.Tie as tie
+
+enum-known-reported : tie.Need-enum-known-reported
+enum-known-reported c = search needs
+
+enum-known-reported-2 : tie.Need-enum-known-reported-2
+enum-known-reported-2 c = search needs
+
+returns : tie.Need-returns
+returns c = sym (ap toldCoordinate (c .before .reported .given .1))
+
+returns-2 : tie.Need-returns-2
+returns-2 c = sym (ap toldCoordinate (c .before .reported2 .given .1))
+
+pub coordinate-spec : {M : Type 1} → statement M
+coordinate-spec = tie.close (tie.spec enum-known-reported enum-known-reported-2 returns returns-2)
