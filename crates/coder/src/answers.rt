@@ -1,5 +1,6 @@
 // The answer to a line, and its text.
 use ground::Refusal;
+use ground::Told;
 use ground::Whole;
 ghost use Prim.Native.Nat.{_+_, _≤_};
 ghost use lib.ListN.{length};
@@ -14,35 +15,34 @@ pub enum Printed {
     Two(bool, Whole),
 }
 
-pub fn refused(why: Refusal) -> Printed {
+fn number_of(why: Refusal) -> u64 {
     match why {
-        Refusal::NoOctets => Printed::Refused(1),
-        Refusal::UnknownType => Printed::Refused(2),
-        Refusal::WrongLength => Printed::Refused(3),
-        Refusal::PolygonCount => Printed::Refused(4),
-        Refusal::AngleCode => Printed::Refused(5),
-        Refusal::ConfidenceTooLarge => Printed::Refused(6),
-        Refusal::OutOfRange => Printed::Refused(7),
-        Refusal::UncertaintyTooLarge => Printed::Refused(8),
-        Refusal::NoneHolds => Printed::Refused(9),
-        Refusal::BufferTooShort => Printed::Refused(10),
-        Refusal::FrameBroken => Printed::Refused(11),
+        Refusal::NoOctets => 1,
+        Refusal::UnknownType => 2,
+        Refusal::WrongLength => 3,
+        Refusal::PolygonCount => 4,
+        Refusal::AngleCode => 5,
+        Refusal::ConfidenceTooLarge => 6,
+        Refusal::OutOfRange => 7,
+        Refusal::UncertaintyTooLarge => 8,
+        Refusal::NoneHolds => 9,
+        Refusal::BufferTooShort => 10,
+        Refusal::FrameBroken => 11,
     }
 }
 
-// An unsigned number to print.
-pub fn one(n: u32) -> Printed {
-    Printed::One(Whole(n as i64))
-}
-
-// A signed number to print.
-pub fn signed(n: i32) -> Printed {
-    Printed::One(Whole(n as i64))
-}
-
-// A code with a sign to print.
-pub fn two(sign: bool, n: u32) -> Printed {
-    Printed::Two(sign, Whole(n as i64))
+// What a coder or a reporter told.
+pub fn of_told(told: Told) -> Printed {
+    match told {
+        Told::Refused(why) => Printed::Refused(number_of(why)),
+        Told::Missing => Printed::Missing,
+        Told::Natural(n) => Printed::One(Whole(n as i64)),
+        Told::Signed(sign, n) => Printed::Two(sign, Whole(n as i64)),
+        Told::Longitude(code) => Printed::One(Whole(code.0 as i64)),
+        Told::Coordinate(x) => Printed::One(Whole(x.0)),
+        Told::Altitude(x) => Printed::One(Whole(x.0 as i64)),
+        Told::VerticalSpeed(x) => Printed::One(Whole(x.0 as i64)),
+    }
 }
 
 // Puts the line's number and its answer.

@@ -1,8 +1,8 @@
 // A line's answer: `code NAME QUANTITY` or `report NAME CODE..`, with one space between two fields.
 use crate::answers::Printed;
-use crate::coding;
+use crate::code_lines;
 use crate::names;
-use crate::reporting;
+use crate::report_lines;
 
 enum Verb {
     Code,
@@ -28,8 +28,8 @@ fn done(verb: Verb, fields: &[u8]) -> Printed {
     let from = end + 1;
     let name = names::name_of(&fields[0..end]);
     match verb {
-        Verb::Code => coding::coded(name, &fields[from..]),
-        Verb::Report => reporting::reported(name, &fields[from..]),
+        Verb::Code => code_lines::coded(name, &fields[from..]),
+        Verb::Report => report_lines::reported(name, &fields[from..]),
         Verb::Unknown => Printed::Unreadable,
     }
 }

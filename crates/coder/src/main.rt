@@ -1,10 +1,10 @@
 // Codes quantities, and reports codes: each line of standard input is answered by a line of standard output, its number,
 // the answer, and on 0 the code or the quantity. A last line says how many there were.
 mod answers;
-mod coding;
+mod code_lines;
 mod lines;
 mod names;
-mod reporting;
+mod report_lines;
 mod widths;
 
 ghost use Prim.Native.Nat.{_+_, _≤_};

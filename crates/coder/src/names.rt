@@ -18,53 +18,49 @@ pub enum Name {
 }
 
 pub fn name_of(s: &[u8]) -> Name {
-    if same(s, b"latitude") {
-        return Name::Latitude;
+    let names =
+        b"latitude longitude uncertainty altitude-uncertainty altitude inner-radius offset included orientation bearing horizontal-speed vertical-speed uncertainty-speed confidence";
+    let place = place_of(s, names);
+    match place {
+        0 => Name::Latitude,
+        1 => Name::Longitude,
+        2 => Name::Uncertainty,
+        3 => Name::AltitudeUncertainty,
+        4 => Name::Altitude,
+        5 => Name::InnerRadius,
+        6 => Name::Offset,
+        7 => Name::Included,
+        8 => Name::Orientation,
+        9 => Name::Bearing,
+        10 => Name::HorizontalSpeed,
+        11 => Name::VerticalSpeed,
+        12 => Name::UncertaintySpeed,
+        13 => Name::Confidence,
+        _ => Name::Unknown,
     }
-    if same(s, b"longitude") {
-        return Name::Longitude;
-    }
-    if same(s, b"uncertainty") {
-        return Name::Uncertainty;
-    }
-    if same(s, b"altitude-uncertainty") {
-        return Name::AltitudeUncertainty;
-    }
-    if same(s, b"altitude") {
-        return Name::Altitude;
-    }
-    if same(s, b"inner-radius") {
-        return Name::InnerRadius;
-    }
-    if same(s, b"confidence") {
-        return Name::Confidence;
-    }
-    angle_or_speed(s)
 }
 
-fn angle_or_speed(s: &[u8]) -> Name {
-    if same(s, b"offset") {
-        return Name::Offset;
+// Which of the names, parted by one space, s is, from 0; a larger number than any where it is none of them.
+fn place_of(s: &[u8], names: &[u8]) -> usize {
+    let mut place: usize = 0;
+    let mut from: usize = 0;
+    while from < names.len() {
+        let end = text::field_end(names, from);
+        if same(s, &names[from..end]) {
+            return place;
+        }
+        if end == names.len() {
+            return names.len();
+        }
+        place += 1;
+        from = end + 1;
     }
-    if same(s, b"included") {
-        return Name::Included;
-    }
-    if same(s, b"orientation") {
-        return Name::Orientation;
-    }
-    if same(s, b"bearing") {
-        return Name::Bearing;
-    }
-    if same(s, b"horizontal-speed") {
-        return Name::HorizontalSpeed;
-    }
-    if same(s, b"vertical-speed") {
-        return Name::VerticalSpeed;
-    }
-    if same(s, b"uncertainty-speed") {
-        return Name::UncertaintySpeed;
-    }
-    Name::Unknown
+    names.len()
+}
+
+// A missing quantity.
+pub fn is_dash(s: &[u8]) -> bool {
+    same(s, b"-")
 }
 
 // Whether the two are the same octets.

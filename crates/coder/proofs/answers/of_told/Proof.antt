@@ -1,0 +1,98 @@
+-- `coder::answers::of_told` is safe: a number of 32 bits fits 64. Assumes nothing.
+use Rattle.ground.proofs.SignLaws.{wide-fits}
+use borrow.Author.Needs.{needs}
+use Rattle.coder.proofs.answers.of_told.Statement.{statement}
+use Rattle.coder.proofs.answers.of_told.Tie as tie
+
+enum-known-told : tie.Need-enum-known-told
+enum-known-told c = search needs
+
+number-of-requires : tie.Need-number-of-requires
+number-of-requires c κs = search needs
+
+enum-told : tie.Need-enum-told
+enum-told c = search needs
+
+enum-known-told-2 : tie.Need-enum-known-told-2
+enum-known-told-2 c = search needs
+
+cast-t12 : tie.Need-cast-t12
+cast-t12 c = search needs
+
+enum-known-told-3 : tie.Need-enum-known-told-3
+enum-known-told-3 c = search needs
+
+cast-t14 : tie.Need-cast-t14
+cast-t14 c = search needs
+
+enum-known-told-4 : tie.Need-enum-known-told-4
+enum-known-told-4 c = search needs
+
+cast-t16 : tie.Need-cast-t16
+cast-t16 c = wide-fits {z = c .before .before .before .told4 .given .0 .0 .0} (search needs)
+
+enum-known-told-5 : tie.Need-enum-known-told-5
+enum-known-told-5 c = search needs
+
+enum-known-told-6 : tie.Need-enum-known-told-6
+enum-known-told-6 c = search needs
+
+cast-t19 : tie.Need-cast-t19
+cast-t19 c = wide-fits {z = c .before .before .before .told6 .given .0 .0 .0} (search needs)
+
+enum-known-told-7 : tie.Need-enum-known-told-7
+enum-known-told-7 c = search needs
+
+cast-t21 : tie.Need-cast-t21
+cast-t21 c = wide-fits {z = c .before .before .before .told7 .given .0 .0 .0} (search needs)
+
+returns : tie.Need-returns
+returns c = search needs
+
+returns-2 : tie.Need-returns-2
+returns-2 c = search needs
+
+returns-3 : tie.Need-returns-3
+returns-3 c = search needs
+
+returns-4 : tie.Need-returns-4
+returns-4 c = search needs
+
+returns-5 : tie.Need-returns-5
+returns-5 c = search needs
+
+returns-6 : tie.Need-returns-6
+returns-6 c = search needs
+
+returns-7 : tie.Need-returns-7
+returns-7 c = search needs
+
+returns-8 : tie.Need-returns-8
+returns-8 c = search needs
+
+pub of-told-spec : {M : Type 1} → statement M
+of-told-spec =
+    tie.close
+    (tie.spec
+    enum-known-told
+    number-of-requires
+    enum-told
+    enum-known-told-2
+    cast-t12
+    enum-known-told-3
+    cast-t14
+    enum-known-told-4
+    cast-t16
+    enum-known-told-5
+    enum-known-told-6
+    cast-t19
+    enum-known-told-7
+    cast-t21
+    returns
+    returns-2
+    returns-3
+    returns-4
+    returns-5
+    returns-6
+    returns-7
+    returns-8)
