@@ -1,57 +1,46 @@
--- What a coder's answer is in plain numbers, and the promise of a function that tells it. Assumes nothing.
+-- A code in plain numbers, and the promise of a function that tells what a coder says. Assumes nothing.
 use mathlib.Core.Path.{_≡_}
 use Prim.Native.Nat.{ℕ}
+use Rattle.ground.specs.Answers.{Said, tells}
 use Rattle.ground.specs.declared.quantities.Nanodegrees.{Nanodegrees}
+use Rattle.ground.specs.declared.quantities.UncertaintySpeed.the-variants as uncertain
+use Rattle.ground.specs.declared.quantities.Confidence.the-variants as confident
 use Rattle.ground.specs.declared.told.Told.{Told}
-use Rattle.ground.specs.declared.told.Told.the-variants.{Refused, Natural, Signed, Longitude}
-use Rattle.coordinates.specs.declared.latitudes.LatitudeCoded.the-variants as latitude-coded
-use Rattle.coordinates.specs.declared.longitudes.LongitudeCoded.the-variants as longitude-coded
-use Rattle.radii.specs.declared.UncertaintyCoded.the-variants as uncertainty-coded
-use Rattle.radii.specs.declared.AltitudeUncertaintyCoded.the-variants as altitudeUncertainty-coded
-use Rattle.angles.specs.declared.OffsetCoded.the-variants as offset-coded
-use Rattle.angles.specs.declared.IncludedCoded.the-variants as included-coded
-use Rattle.angles.specs.declared.OrientationCoded.the-variants as orientation-coded
-use Rattle.angles.specs.declared.BearingCoded.the-variants as bearing-coded
-use Rattle.speeds.specs.declared.UncertaintySpeedCoded.the-variants as uncertaintySpeed-coded
-use Rattle.confidences.specs.declared.ConfidenceCoded.the-variants as confidence-coded
+use Rattle.ground.specs.declared.told.Told.the-variants.{Natural, Signed, Longitude}
 use Rattle.coding.specs.declared.Coordinate.{Coordinate}
 use Rattle.coding.specs.declared.Coordinate.the-variants as coordinate
 use Rattle.coding.specs.declared.Unsigned.{Unsigned}
 use Rattle.coding.specs.declared.Unsigned.the-variants as unsigned
-use Rattle.fields.specs.Fields.{Field, latitude, longitude, uncertainty, altitudeUncertainty, altitude, innerRadius, offset, included, orientation, bearing, horizontalSpeed, verticalSpeed, uncertaintySpeed, confidence, QuantityOf, CodedOf, saidCode, Coding}
+use Rattle.coding.specs.declared.Markable.{Markable}
+use Rattle.coding.specs.declared.Markable.the-variants as markable
+use Rattle.fields.specs.Fields.{Field, latitude, longitude, uncertainty, altitudeUncertainty, altitude, innerRadius, offset, included, orientation, bearing, horizontalSpeed, verticalSpeed, uncertaintySpeed, confidence, CodeOf, QuantityOf, CodedOf, saidCode, Coding}
 
--- a code's numbers, or the refusal
-abbrev pub toldCode : (f : Field) → CodedOf f → Told
-toldCode latitude (latitude-coded.Code c) = Signed (c .0) (c .1)
-toldCode latitude (latitude-coded.Refused why) = Refused why
-toldCode longitude (longitude-coded.Code c) = Longitude c
-toldCode longitude (longitude-coded.Refused why) = Refused why
-toldCode uncertainty (uncertainty-coded.Code c) = Natural (c .0)
-toldCode uncertainty (uncertainty-coded.Refused why) = Refused why
-toldCode altitudeUncertainty (altitudeUncertainty-coded.Code c) = Natural (c .0)
-toldCode altitudeUncertainty (altitudeUncertainty-coded.Refused why) = Refused why
+-- a code's numbers: a sign and a number, or one number
+abbrev pub toldCode : (f : Field) → CodeOf f → Told
+toldCode latitude c = Signed (c .0) (c .1)
+toldCode longitude c = Longitude c
+toldCode uncertainty c = Natural (c .0)
+toldCode altitudeUncertainty c = Natural (c .0)
 toldCode altitude c = Signed (c .0) (c .1)
 toldCode innerRadius c = Natural (c .0)
-toldCode offset (offset-coded.Code c) = Natural (c .0)
-toldCode offset (offset-coded.Refused why) = Refused why
-toldCode included (included-coded.Code c) = Natural (c .0)
-toldCode included (included-coded.Refused why) = Refused why
-toldCode orientation (orientation-coded.Code c) = Natural (c .0)
-toldCode orientation (orientation-coded.Refused why) = Refused why
-toldCode bearing (bearing-coded.Code c) = Natural (c .0)
-toldCode bearing (bearing-coded.Refused why) = Refused why
+toldCode offset c = Natural (c .0)
+toldCode included c = Natural (c .0)
+toldCode orientation c = Natural (c .0)
+toldCode bearing c = Natural (c .0)
 toldCode horizontalSpeed c = Natural (c .0)
 toldCode verticalSpeed c = Signed (c .0) (c .1)
-toldCode uncertaintySpeed (uncertaintySpeed-coded.Code c) = Natural (c .0)
-toldCode uncertaintySpeed (uncertaintySpeed-coded.Refused why) = Refused why
-toldCode confidence (confidence-coded.Code c) = Natural (c .0)
-toldCode confidence (confidence-coded.Refused why) = Refused why
+toldCode uncertaintySpeed c = Natural (c .0)
+toldCode confidence c = Natural (c .0)
 
--- r tells an answer that keeps the coder's promise for x
+-- what a coder's answer tells
+abbrev pub toldBy : (f : Field) → CodedOf f → Told
+toldBy f r = tells (toldCode f) (saidCode f r)
+
+-- r tells what a coder that keeps its promise says of x
 pub record Tells (f : Field) (x : QuantityOf f) (r : Told) : Type 0 where
-  pub answer : CodedOf f
-  pub promise : Coding f x (saidCode f answer)
-  pub told : r ≡ toldCode f answer
+  pub said : Said (CodeOf f)
+  pub promise : Coding f x said
+  pub told : r ≡ tells (toldCode f) said
 
 abbrev pub TellsCoordinate : Coordinate → Nanodegrees → Told → Type 0
 TellsCoordinate coordinate.Latitude x r = Tells latitude x r
@@ -66,3 +55,9 @@ TellsUnsigned unsigned.Included x r = Tells included (record { 0 = x }) r
 TellsUnsigned unsigned.Orientation x r = Tells orientation (record { 0 = x }) r
 TellsUnsigned unsigned.Bearing x r = Tells bearing (record { 0 = x }) r
 TellsUnsigned unsigned.HorizontalSpeed x r = Tells horizontalSpeed (record { 0 = x }) r
+TellsUnsigned unsigned.UncertaintySpeed x r = Tells uncertaintySpeed (uncertain.Speed (record { 0 = x })) r
+TellsUnsigned unsigned.Confidence x r = Tells confidence (confident.PerCent x) r
+
+abbrev pub TellsMissing : Markable → Told → Type 0
+TellsMissing markable.UncertaintySpeed r = Tells uncertaintySpeed uncertain.Missing r
+TellsMissing markable.Confidence r = Tells confidence confident.Missing r

@@ -10,15 +10,15 @@ use ground::SignedMetresPerHour;
 use ground::SignedMillimetres;
 use ground::Told;
 use ground::UncertaintySpeed;
-ghost use Rattle.coding.specs.Tells.{Tells, TellsCoordinate, TellsUnsigned};
-ghost use Rattle.fields.specs.Fields.{altitude, verticalSpeed, uncertaintySpeed, confidence};
+ghost use Rattle.coding.specs.Tells.{Tells, TellsCoordinate, TellsUnsigned, TellsMissing};
+ghost use Rattle.fields.specs.Fields.{altitude, verticalSpeed};
 
 pub enum Coordinate {
     Latitude,
     Longitude,
 }
 
-// The fields whose quantities arrive unsigned in 32 bits and can't be missing.
+// The fields whose quantities arrive unsigned in 32 bits.
 pub enum Unsigned {
     Uncertainty,
     AltitudeUncertainty,
@@ -28,6 +28,14 @@ pub enum Unsigned {
     Orientation,
     Bearing,
     HorizontalSpeed,
+    UncertaintySpeed,
+    Confidence,
+}
+
+// The fields whose quantity may be missing.
+pub enum Markable {
+    UncertaintySpeed,
+    Confidence,
 }
 
 pub fn coded_coordinate(field: Coordinate, x: Nanodegrees) -> Told
@@ -53,29 +61,37 @@ pub fn coded_unsigned(field: Unsigned, x: u32) -> Told
         Unsigned::Bearing => told::bearing(angles::bearing_code(Millidegrees(x))),
         Unsigned::HorizontalSpeed =>
             told::horizontal_speed(speeds::horizontal_speed_code(MetresPerHour(x))),
+        Unsigned::UncertaintySpeed =>
+            told::uncertainty_speed(speeds::uncertainty_speed_code(UncertaintySpeed::Speed(MetresPerHour(
+                x,
+            )))),
+        Unsigned::Confidence => told::confidence(confidences::confidence_code(Confidence::PerCent(
+            x,
+        ))),
+    }
+}
+
+pub fn coded_missing(field: Markable) -> Told
+    ensures { λ r. ⌜ TellsMissing field r ⌝ }
+{
+    match field {
+        Markable::UncertaintySpeed => told::uncertainty_speed(speeds::uncertainty_speed_code(
+            UncertaintySpeed::Missing,
+        )),
+        Markable::Confidence => told::confidence(confidences::confidence_code(Confidence::Missing)),
     }
 }
 
 pub fn coded_altitude(x: SignedMillimetres) -> Told
     ensures { λ r. ⌜ Tells altitude x r ⌝ }
 {
-    told::altitude(lengths::altitude_code(x))
+    let c = lengths::altitude_code(x);
+    Told::Signed(c.0, c.1 as u32)
 }
 
 pub fn coded_vertical_speed(x: SignedMetresPerHour) -> Told
     ensures { λ r. ⌜ Tells verticalSpeed x r ⌝ }
 {
-    told::vertical_speed(speeds::vertical_speed_code(x))
-}
-
-pub fn coded_uncertainty_speed(x: UncertaintySpeed) -> Told
-    ensures { λ r. ⌜ Tells uncertaintySpeed x r ⌝ }
-{
-    told::uncertainty_speed(speeds::uncertainty_speed_code(x))
-}
-
-pub fn coded_confidence(x: Confidence) -> Told
-    ensures { λ r. ⌜ Tells confidence x r ⌝ }
-{
-    told::confidence(confidences::confidence_code(x))
+    let c = speeds::vertical_speed_code(x);
+    Told::Signed(c.0, c.1 as u32)
 }

@@ -6,20 +6,18 @@ use angles::OrientationCoded;
 use confidences::ConfidenceCoded;
 use coordinates::LatitudeCoded;
 use coordinates::LongitudeCoded;
-use ground::AltitudeCode;
 use ground::HorizontalSpeedCode;
 use ground::InnerRadiusCode;
 use ground::Told;
-use ground::VerticalSpeedCode;
 use radii::AltitudeUncertaintyCoded;
 use radii::UncertaintyCoded;
 use speeds::UncertaintySpeedCoded;
 ghost use mathlib.Core.Path.{_≡_};
-ghost use Rattle.coding.specs.Tells.{toldCode};
-ghost use Rattle.fields.specs.Fields.{latitude, longitude, uncertainty, altitudeUncertainty, offset, included, orientation, bearing, uncertaintySpeed, confidence, altitude, innerRadius, horizontalSpeed, verticalSpeed};
+ghost use Rattle.coding.specs.Tells.{toldBy, toldCode};
+ghost use Rattle.fields.specs.Fields.{latitude, longitude, uncertainty, altitudeUncertainty, offset, included, orientation, bearing, uncertaintySpeed, confidence, innerRadius, horizontalSpeed};
 
 pub fn latitude(coded: LatitudeCoded) -> Told
-    ensures { λ r. ⌜ r ≡ toldCode latitude coded ⌝ }
+    ensures { λ r. ⌜ r ≡ toldBy latitude coded ⌝ }
 {
     match coded {
         LatitudeCoded::Code(c) => Told::Signed(c.0, c.1),
@@ -28,7 +26,7 @@ pub fn latitude(coded: LatitudeCoded) -> Told
 }
 
 pub fn longitude(coded: LongitudeCoded) -> Told
-    ensures { λ r. ⌜ r ≡ toldCode longitude coded ⌝ }
+    ensures { λ r. ⌜ r ≡ toldBy longitude coded ⌝ }
 {
     match coded {
         LongitudeCoded::Code(c) => Told::Longitude(c),
@@ -37,7 +35,7 @@ pub fn longitude(coded: LongitudeCoded) -> Told
 }
 
 pub fn uncertainty(coded: UncertaintyCoded) -> Told
-    ensures { λ r. ⌜ r ≡ toldCode uncertainty coded ⌝ }
+    ensures { λ r. ⌜ r ≡ toldBy uncertainty coded ⌝ }
 {
     match coded {
         UncertaintyCoded::Code(c) => Told::Natural(c.0 as u32),
@@ -46,7 +44,7 @@ pub fn uncertainty(coded: UncertaintyCoded) -> Told
 }
 
 pub fn altitude_uncertainty(coded: AltitudeUncertaintyCoded) -> Told
-    ensures { λ r. ⌜ r ≡ toldCode altitudeUncertainty coded ⌝ }
+    ensures { λ r. ⌜ r ≡ toldBy altitudeUncertainty coded ⌝ }
 {
     match coded {
         AltitudeUncertaintyCoded::Code(c) => Told::Natural(c.0 as u32),
@@ -55,7 +53,7 @@ pub fn altitude_uncertainty(coded: AltitudeUncertaintyCoded) -> Told
 }
 
 pub fn offset(coded: OffsetCoded) -> Told
-    ensures { λ r. ⌜ r ≡ toldCode offset coded ⌝ }
+    ensures { λ r. ⌜ r ≡ toldBy offset coded ⌝ }
 {
     match coded {
         OffsetCoded::Code(c) => Told::Natural(c.0 as u32),
@@ -64,7 +62,7 @@ pub fn offset(coded: OffsetCoded) -> Told
 }
 
 pub fn included(coded: IncludedCoded) -> Told
-    ensures { λ r. ⌜ r ≡ toldCode included coded ⌝ }
+    ensures { λ r. ⌜ r ≡ toldBy included coded ⌝ }
 {
     match coded {
         IncludedCoded::Code(c) => Told::Natural(c.0 as u32),
@@ -73,7 +71,7 @@ pub fn included(coded: IncludedCoded) -> Told
 }
 
 pub fn orientation(coded: OrientationCoded) -> Told
-    ensures { λ r. ⌜ r ≡ toldCode orientation coded ⌝ }
+    ensures { λ r. ⌜ r ≡ toldBy orientation coded ⌝ }
 {
     match coded {
         OrientationCoded::Code(c) => Told::Natural(c.0 as u32),
@@ -82,7 +80,7 @@ pub fn orientation(coded: OrientationCoded) -> Told
 }
 
 pub fn bearing(coded: BearingCoded) -> Told
-    ensures { λ r. ⌜ r ≡ toldCode bearing coded ⌝ }
+    ensures { λ r. ⌜ r ≡ toldBy bearing coded ⌝ }
 {
     match coded {
         BearingCoded::Code(c) => Told::Natural(c.0 as u32),
@@ -91,7 +89,7 @@ pub fn bearing(coded: BearingCoded) -> Told
 }
 
 pub fn uncertainty_speed(coded: UncertaintySpeedCoded) -> Told
-    ensures { λ r. ⌜ r ≡ toldCode uncertaintySpeed coded ⌝ }
+    ensures { λ r. ⌜ r ≡ toldBy uncertaintySpeed coded ⌝ }
 {
     match coded {
         UncertaintySpeedCoded::Code(c) => Told::Natural(c.0 as u32),
@@ -100,18 +98,12 @@ pub fn uncertainty_speed(coded: UncertaintySpeedCoded) -> Told
 }
 
 pub fn confidence(coded: ConfidenceCoded) -> Told
-    ensures { λ r. ⌜ r ≡ toldCode confidence coded ⌝ }
+    ensures { λ r. ⌜ r ≡ toldBy confidence coded ⌝ }
 {
     match coded {
         ConfidenceCoded::Code(c) => Told::Natural(c.0 as u32),
         ConfidenceCoded::Refused(why) => Told::Refused(why),
     }
-}
-
-pub fn altitude(c: AltitudeCode) -> Told
-    ensures { λ r. ⌜ r ≡ toldCode altitude c ⌝ }
-{
-    Told::Signed(c.0, c.1 as u32)
 }
 
 pub fn inner_radius(c: InnerRadiusCode) -> Told
@@ -124,10 +116,4 @@ pub fn horizontal_speed(c: HorizontalSpeedCode) -> Told
     ensures { λ r. ⌜ r ≡ toldCode horizontalSpeed c ⌝ }
 {
     Told::Natural(c.0 as u32)
-}
-
-pub fn vertical_speed(c: VerticalSpeedCode) -> Told
-    ensures { λ r. ⌜ r ≡ toldCode verticalSpeed c ⌝ }
-{
-    Told::Signed(c.0, c.1 as u32)
 }

@@ -30,6 +30,10 @@ speed-reported-one c (Speed s) uncertain.Missing p q = absurd (omega (arith, p .
 speed-reported-one c uncertain.Missing (Speed t) p q = absurd (omega (arith, q .code))
 speed-reported-one c uncertain.Missing uncertain.Missing p q = refl
 
+speed-apart : (c : UncertaintySpeedCode) (x : UncertaintySpeed) → UncertaintySpeedReporting c x → 255 < c .0 → ⊥
+speed-apart c (Speed s) p h = omega (arith, p .code)
+speed-apart c uncertain.Missing p h = omega arith
+
 confidence-reported-one : (c : ConfidenceCode) (x y : Confidence) → ConfidenceSet c x → ConfidenceSet c y → x ≡ y
 confidence-reported-one c (PerCent m) (PerCent n) p q = ap PerCent (sym (p .itself) ∙ q .itself)
 confidence-reported-one c (PerCent m) confident.Missing p q = absurd (omega (arith, p .itself, p .least))
@@ -64,12 +68,12 @@ reporting-one longitude c = one-answer _ 7 _ (λ x y p q. ap (λ (z : ℤ). reco
 reporting-one uncertainty c = one-answer _ 7 _ (λ x y p q. ap (λ (n : ℕ). record { 0 = n }) (covered-one p q)) (λ x p h. omega (arith, p .code))
 reporting-one altitudeUncertainty c = one-answer _ 7 _ (λ x y p q. ap (λ (n : ℕ). record { 0 = n }) (covered-one p q)) (λ x p h. omega (arith, p .code))
 reporting-one altitude c = one-answer _ 7 _ (λ x y p q. ap (λ (z : ℤ). record { 0 = z }) (nearest-one p q)) (λ x p h. omega (arith, p .member .size .code))
-reporting-one innerRadius c = one-answer _ 0 _ (λ x y p q. ap (λ (n : ℕ). record { 0 = n }) (least-of-one p q)) (λ x p h. h)
+reporting-one innerRadius c = one-answer _ 7 _ (λ x y p q. ap (λ (n : ℕ). record { 0 = n }) (least-of-one p q)) (λ x p h. omega (arith, p .member .code))
 reporting-one offset c = one-answer _ 5 _ (λ x y p q. ap (λ (n : ℕ). record { 0 = n }) (least-of-one p q)) (λ x p h. omega (arith, p .member .code))
 reporting-one included c = one-answer _ 5 _ (λ x y p q. ap (λ (n : ℕ). record { 0 = n }) (greatest-of-one p q)) (λ x p h. omega (arith, p .member .code))
 reporting-one orientation c = one-answer _ 5 _ (λ x y p q. ap (λ (n : ℕ). record { 0 = n }) (least-of-one p q)) (λ x p h. omega (arith, p .member .code))
 reporting-one bearing c = one-answer _ 5 _ (λ x y p q. ap (λ (n : ℕ). record { 0 = n }) (least-of-one p q)) (λ x p h. omega (arith, p .member .code))
-reporting-one horizontalSpeed c = one-answer _ 0 _ (λ x y p q. ap (λ (n : ℕ). record { 0 = n }) (p .speed ∙ sym (q .speed))) (λ x p h. h)
-reporting-one verticalSpeed c = one-answer _ 0 _ (λ x y p q. ap (λ (z : ℤ). record { 0 = z }) (p .speed ∙ sym (q .speed))) (λ x p h. h)
-reporting-one uncertaintySpeed c = one-answer _ 0 _ (speed-reported-one c) (λ x p h. h)
+reporting-one horizontalSpeed c = one-answer _ 7 _ (λ x y p q. ap (λ (n : ℕ). record { 0 = n }) (p .speed ∙ sym (q .speed))) (λ x p h. omega (arith, p .code))
+reporting-one verticalSpeed c = one-answer _ 7 _ (λ x y p q. ap (λ (z : ℤ). record { 0 = z }) (p .speed ∙ sym (q .speed))) (λ x p h. omega (arith, p .code))
+reporting-one uncertaintySpeed c = one-answer _ 7 _ (speed-reported-one c) (speed-apart c)
 reporting-one confidence c = one-answer _ 6 _ (confidence-reported-one c) (confidence-apart c)

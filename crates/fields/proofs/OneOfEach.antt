@@ -2,8 +2,8 @@
 use mathlib.Core.Path.{_≡_, refl, ap}
 use mathlib.Core.Bool.{false}
 use lib.IntN.{pos}
-use Rattle.ground.specs.Answers.{Said, done, refused}
-use Rattle.ground.proofs.AnswerLaws.{refusalOf, refusal-back, told-by}
+use Rattle.ground.specs.Answers.{refusalOf, Said, done, refused}
+use Rattle.ground.proofs.AnswerLaws.{refusal-back, told-by}
 use Rattle.coordinates.specs.declared.latitudes.LatitudeCoded.the-variants as latitude-coded
 use Rattle.coordinates.specs.declared.longitudes.LongitudeCoded.the-variants as longitude-coded
 use Rattle.radii.specs.declared.UncertaintyCoded.the-variants as uncertainty-coded

@@ -1,5 +1,6 @@
 -- Document 01's table: what each field's codes and quantities are, and what coding and reporting promise. Assumes nothing.
-use Rattle.ground.specs.Answers.{Said, done, Always}
+use Prim.Native.Nat.{_<_}
+use Rattle.ground.specs.Answers.{Said, done, Answer, Always}
 use Rattle.ground.specs.declared.quantities.Nanodegrees.{Nanodegrees}
 use Rattle.ground.specs.declared.quantities.Millidegrees.{Millidegrees}
 use Rattle.ground.specs.declared.quantities.Millimetres.{Millimetres}
@@ -112,21 +113,21 @@ Coding verticalSpeed x = Always (λ c. VerticalSpeedSet c (x .0))
 Coding uncertaintySpeed x = UncertaintySpeedCoding x
 Coding confidence x = ConfidenceCoding x
 
--- what reporting a code says
+-- what reporting a code says; 7 for a number that is no code of the field, also where the code's own type can't hold it
 abbrev pub Reporting : (f : Field) → CodeOf f → Said (QuantityOf f) → Type 0
 Reporting latitude c = LatitudeReporting c
 Reporting longitude c = LongitudeReporting c
 Reporting uncertainty c = UncertaintyReporting c
 Reporting altitudeUncertainty c = AltitudeUncertaintyReporting c
 Reporting altitude c = AltitudeReporting c
-Reporting innerRadius c = Always (InnerRadiusReporting c)
+Reporting innerRadius c = Answer (InnerRadiusReporting c) 7 (65535 < c .0)
 Reporting offset c = OffsetReporting c
 Reporting included c = IncludedReporting c
 Reporting orientation c = OrientationReporting c
 Reporting bearing c = BearingReporting c
-Reporting horizontalSpeed c = Always (HorizontalSpeedReporting c)
-Reporting verticalSpeed c = Always (VerticalSpeedReporting c)
-Reporting uncertaintySpeed c = Always (UncertaintySpeedReporting c)
+Reporting horizontalSpeed c = Answer (HorizontalSpeedReporting c) 7 (65535 < c .0)
+Reporting verticalSpeed c = Answer (VerticalSpeedReporting c) 7 (255 < c .1)
+Reporting uncertaintySpeed c = Answer (UncertaintySpeedReporting c) 7 (255 < c .0)
 Reporting confidence c = ConfidenceReporting c
 
 -- ---- what the functions answer: an enum where they may refuse, else the code or the quantity

@@ -1,9 +1,7 @@
 -- One answer: what a promise of the shape `Answer` leaves open. Assumes nothing.
 use mathlib.Core.Path.{_≡_, refl, sym, ap, _∙_}
-use mathlib.Core.List.{[], _∷_}
-use Prim.Native.Nat.{ℕ, _-_}
-use lib.ListN.{getD}
-use Rattle.ground.specs.Answers.{numberOf, Said, done, refused, Answer}
+use Prim.Native.Nat.{ℕ}
+use Rattle.ground.specs.Answers.{numberOf, refusalOf, Said, done, refused, Answer}
 use Rattle.ground.specs.declared.refusals.Refusal.{Refusal}
 use Rattle.ground.specs.declared.refusals.Refusal.the-variants.{NoOctets, UnknownType, WrongLength, PolygonCount, AngleCode, ConfidenceTooLarge, OutOfRange, UncertaintyTooLarge, NoneHolds, BufferTooShort, FrameBroken}
 
@@ -14,11 +12,6 @@ module _ {A : Type 0} (right : A → Type 0) (number : ℕ) (reason : Type 0) (o
   one-answer (done a) (refused n) p q = absurd (apart a p (q .1))
   one-answer (refused m) (done b) p q = absurd (apart b q (p .1))
   one-answer (refused m) (refused n) p q = ap refused (p .0 ∙ sym (q .0))
-
--- the refusal of a number
-abbrev pub refusalOf : ℕ → Refusal
-refusalOf n =
-    getD (NoOctets ∷ UnknownType ∷ WrongLength ∷ PolygonCount ∷ AngleCode ∷ ConfidenceTooLarge ∷ OutOfRange ∷ UncertaintyTooLarge ∷ NoneHolds ∷ BufferTooShort ∷ FrameBroken ∷ []) (n - 1) FrameBroken
 
 pub refusal-back : (why : Refusal) → refusalOf (numberOf why) ≡ why
 refusal-back NoOctets = refl

@@ -1,6 +1,10 @@
 -- What an answer says: document 01's number, and on 0 the values. Assumes nothing.
 use mathlib.Core.Path.{_≡_}
-use Prim.Native.Nat.{ℕ}
+use mathlib.Core.List.{[], _∷_}
+use Prim.Native.Nat.{ℕ, _-_}
+use lib.ListN.{getD}
+use Rattle.ground.specs.declared.told.Told.{Told}
+use Rattle.ground.specs.declared.told.Told.the-variants.{Refused}
 use Rattle.ground.specs.declared.refusals.Refusal.{Refusal}
 use Rattle.ground.specs.declared.refusals.Refusal.the-variants.{
   NoOctets,
@@ -29,6 +33,11 @@ numberOf NoneHolds = 9
 numberOf BufferTooShort = 10
 numberOf FrameBroken = 11
 
+-- the refusal of a number
+abbrev pub refusalOf : ℕ → Refusal
+refusalOf n =
+    getD (NoOctets ∷ UnknownType ∷ WrongLength ∷ PolygonCount ∷ AngleCode ∷ ConfidenceTooLarge ∷ OutOfRange ∷ UncertaintyTooLarge ∷ NoneHolds ∷ BufferTooShort ∷ FrameBroken ∷ []) (n - 1) FrameBroken
+
 -- 0 and the value, or the number of a refusal and nothing else
 pub data Said (A : Type 0) : Type 0 where
   done : A → Said A
@@ -42,3 +51,8 @@ Answer right number reason (refused n) = (n ≡ number) × reason
 -- The promise of a function that never refuses.
 abbrev pub Always : {A : Type 0} → (A → Type 0) → Said A → Type 0
 Always right = Answer right 0 ⊥
+
+-- What an answer tells in plain numbers: the value's, or the refusal.
+abbrev pub tells : {A : Type 0} → (A → Told) → Said A → Told
+tells numbers (done a) = numbers a
+tells numbers (refused n) = Refused (refusalOf n)

@@ -1,43 +1,38 @@
--- What a reporter's answer is in plain numbers, and the promise of a function that tells it. Assumes nothing.
+-- A quantity in plain numbers, and the promise of a function that tells what a reporter says. Assumes nothing.
 use mathlib.Core.Path.{_≡_}
+use mathlib.Core.Bool.{Bool}
 use Prim.Native.Nat.{ℕ}
+use Rattle.ground.specs.Answers.{Said, tells}
+use Rattle.ground.specs.declared.refusals.Refusal.the-variants.{AngleCode, ConfidenceTooLarge, OutOfRange}
+use Rattle.ground.specs.declared.quantities.Nanodegrees.{Nanodegrees}
+use Rattle.ground.specs.declared.quantities.Millidegrees.{Millidegrees}
+use Rattle.ground.specs.declared.quantities.Millimetres.{Millimetres}
+use Rattle.ground.specs.declared.quantities.SignedMillimetres.{SignedMillimetres}
 use Rattle.ground.specs.declared.quantities.UncertaintySpeed.{UncertaintySpeed}
 use Rattle.ground.specs.declared.quantities.UncertaintySpeed.the-variants as uncertain
 use Rattle.ground.specs.declared.quantities.Confidence.{Confidence}
 use Rattle.ground.specs.declared.quantities.Confidence.the-variants as confident
 use Rattle.ground.specs.declared.told.Told.{Told}
 use Rattle.ground.specs.declared.told.Told.the-variants as told
-use Rattle.coordinates.specs.declared.CoordinateReported.{CoordinateReported}
-use Rattle.coordinates.specs.declared.CoordinateReported.the-variants as coordinate
-use Rattle.radii.specs.declared.RadiusReported.{RadiusReported}
-use Rattle.radii.specs.declared.RadiusReported.the-variants as radius
-use Rattle.lengths.specs.declared.AltitudeReported.{AltitudeReported}
-use Rattle.lengths.specs.declared.AltitudeReported.the-variants as height
-use Rattle.angles.specs.declared.AngleReported.{AngleReported}
-use Rattle.angles.specs.declared.AngleReported.the-variants as angle
-use Rattle.confidences.specs.declared.ConfidenceReported.{ConfidenceReported}
-use Rattle.confidences.specs.declared.ConfidenceReported.the-variants as sure
 use Rattle.reporting.specs.declared.Byte.{Byte}
 use Rattle.reporting.specs.declared.Byte.the-variants as byte
 use Rattle.reporting.specs.declared.Word.{Word}
 use Rattle.reporting.specs.declared.Word.the-variants as word
-use Rattle.fields.specs.Fields.{Field, latitude, longitude, uncertainty, altitudeUncertainty, altitude, innerRadius, offset, included, orientation, bearing, horizontalSpeed, verticalSpeed, uncertaintySpeed, confidence, CodeOf, ReportedOf, saidQuantity, Reporting}
+use Rattle.reporting.specs.declared.Signed.{Signed}
+use Rattle.reporting.specs.declared.Signed.the-variants as signed
+use Rattle.fields.specs.Fields.{Field, latitude, longitude, uncertainty, altitudeUncertainty, altitude, innerRadius, offset, included, orientation, bearing, horizontalSpeed, verticalSpeed, uncertaintySpeed, confidence, CodeOf, QuantityOf, Reporting}
 
-abbrev pub toldCoordinate : CoordinateReported → Told
-toldCoordinate (coordinate.Coordinate x) = told.Coordinate x
-toldCoordinate (coordinate.Refused why) = told.Refused why
+abbrev pub toldCoordinate : Nanodegrees → Told
+toldCoordinate x = told.Coordinate x
 
-abbrev pub toldRadius : RadiusReported → Told
-toldRadius (radius.Radius x) = told.Natural (x .0)
-toldRadius (radius.Refused why) = told.Refused why
+abbrev pub toldLength : Millimetres → Told
+toldLength x = told.Natural (x .0)
 
-abbrev pub toldAltitude : AltitudeReported → Told
-toldAltitude (height.Altitude x) = told.Altitude x
-toldAltitude (height.Refused why) = told.Refused why
+abbrev pub toldAltitude : SignedMillimetres → Told
+toldAltitude x = told.Altitude x
 
-abbrev pub toldAngle : AngleReported → Told
-toldAngle (angle.Angle x) = told.Natural (x .0)
-toldAngle (angle.Refused why) = told.Refused why
+abbrev pub toldAngle : Millidegrees → Told
+toldAngle x = told.Natural (x .0)
 
 abbrev pub toldUncertaintySpeed : UncertaintySpeed → Told
 toldUncertaintySpeed (uncertain.Speed s) = told.Natural (s .0)
@@ -47,32 +42,28 @@ abbrev pub toldPerCent : Confidence → Told
 toldPerCent (confident.PerCent p) = told.Natural p
 toldPerCent confident.Missing = told.Missing
 
-abbrev pub toldConfidence : ConfidenceReported → Told
-toldConfidence (sure.Confidence x) = toldPerCent x
-toldConfidence (sure.Refused why) = told.Refused why
+-- a quantity's number, or the mark of a missing one
+abbrev pub toldQuantity : (f : Field) → QuantityOf f → Told
+toldQuantity latitude x = toldCoordinate x
+toldQuantity longitude x = toldCoordinate x
+toldQuantity uncertainty x = toldLength x
+toldQuantity altitudeUncertainty x = toldLength x
+toldQuantity altitude x = toldAltitude x
+toldQuantity innerRadius x = toldLength x
+toldQuantity offset x = toldAngle x
+toldQuantity included x = toldAngle x
+toldQuantity orientation x = toldAngle x
+toldQuantity bearing x = toldAngle x
+toldQuantity horizontalSpeed x = told.Natural (x .0)
+toldQuantity verticalSpeed x = told.VerticalSpeed x
+toldQuantity uncertaintySpeed x = toldUncertaintySpeed x
+toldQuantity confidence x = toldPerCent x
 
--- a quantity's number, a mark for a missing one, or the refusal
-abbrev pub toldQuantity : (f : Field) → ReportedOf f → Told
-toldQuantity latitude r = toldCoordinate r
-toldQuantity longitude r = toldCoordinate r
-toldQuantity uncertainty r = toldRadius r
-toldQuantity altitudeUncertainty r = toldRadius r
-toldQuantity altitude r = toldAltitude r
-toldQuantity innerRadius r = told.Natural (r .0)
-toldQuantity offset r = toldAngle r
-toldQuantity included r = toldAngle r
-toldQuantity orientation r = toldAngle r
-toldQuantity bearing r = toldAngle r
-toldQuantity horizontalSpeed r = told.Natural (r .0)
-toldQuantity verticalSpeed r = told.VerticalSpeed r
-toldQuantity uncertaintySpeed r = toldUncertaintySpeed r
-toldQuantity confidence r = toldConfidence r
-
--- r tells an answer that keeps the reporter's promise for the code c
+-- r tells what a reporter that keeps its promise says of the code c
 pub record Tells (f : Field) (c : CodeOf f) (r : Told) : Type 0 where
-  pub answer : ReportedOf f
-  pub promise : Reporting f c (saidQuantity f answer)
-  pub told : r ≡ toldQuantity f answer
+  pub said : Said (QuantityOf f)
+  pub promise : Reporting f c said
+  pub told : r ≡ tells (toldQuantity f) said
 
 abbrev pub TellsByte : Byte → ℕ → Told → Type 0
 TellsByte byte.Uncertainty n r = Tells uncertainty (record { 0 = n }) r
@@ -87,3 +78,23 @@ abbrev pub TellsWord : Word → ℕ → Told → Type 0
 TellsWord word.InnerRadius n r = Tells innerRadius (record { 0 = n }) r
 TellsWord word.Bearing n r = Tells bearing (record { 0 = n }) r
 TellsWord word.HorizontalSpeed n r = Tells horizontalSpeed (record { 0 = n }) r
+
+abbrev pub TellsSigned : Signed → Bool → ℕ → Told → Type 0
+TellsSigned signed.Latitude s n r = Tells latitude (record { 0 = s; 1 = n }) r
+TellsSigned signed.Altitude s n r = Tells altitude (record { 0 = s; 1 = n }) r
+TellsSigned signed.VerticalSpeed s n r = Tells verticalSpeed (record { 0 = s; 1 = n }) r
+
+-- what a number that 8 or 16 bits can't hold is refused with
+abbrev pub aboveByte : Byte → Told
+aboveByte byte.Uncertainty = told.Refused OutOfRange
+aboveByte byte.AltitudeUncertainty = told.Refused OutOfRange
+aboveByte byte.Offset = told.Refused AngleCode
+aboveByte byte.Included = told.Refused AngleCode
+aboveByte byte.Orientation = told.Refused AngleCode
+aboveByte byte.UncertaintySpeed = told.Refused OutOfRange
+aboveByte byte.Confidence = told.Refused ConfidenceTooLarge
+
+abbrev pub aboveWord : Word → Told
+aboveWord word.InnerRadius = told.Refused OutOfRange
+aboveWord word.Bearing = told.Refused AngleCode
+aboveWord word.HorizontalSpeed = told.Refused OutOfRange

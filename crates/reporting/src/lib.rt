@@ -1,4 +1,5 @@
-// The reporters side by side, with answers in plain numbers.
+// The reporters side by side, with answers in plain numbers. A number that a code's own type can't hold is refused as one
+// that its field can't hold.
 mod told;
 
 use ground::AltitudeCode;
@@ -12,12 +13,14 @@ use ground::LatitudeCode;
 use ground::LongitudeCode;
 use ground::OffsetCode;
 use ground::OrientationCode;
+use ground::Refusal;
 use ground::Told;
 use ground::UncertaintyCode;
 use ground::UncertaintySpeedCode;
 use ground::VerticalSpeedCode;
-ghost use Rattle.reporting.specs.Tells.{Tells, TellsByte, TellsWord};
-ghost use Rattle.fields.specs.Fields.{latitude, longitude, altitude, verticalSpeed};
+ghost use mathlib.Core.Path.{_≡_};
+ghost use Rattle.reporting.specs.Tells.{Tells, TellsByte, TellsWord, TellsSigned, aboveByte, aboveWord};
+ghost use Rattle.fields.specs.Fields.{longitude};
 
 // The fields whose codes are of 8 bits at most.
 pub enum Byte {
@@ -37,38 +40,71 @@ pub enum Word {
     HorizontalSpeed,
 }
 
-pub fn reported_byte(field: Byte, n: u8) -> Told
-    ensures { λ r. ⌜ TellsByte field n r ⌝ }
-{
-    match field {
-        Byte::Uncertainty => told::radius(radii::reported_uncertainty(UncertaintyCode(n))),
-        Byte::AltitudeUncertainty =>
-            told::radius(radii::reported_altitude_uncertainty(AltitudeUncertaintyCode(n))),
-        Byte::Offset => told::angle(angles::reported_offset(OffsetCode(n))),
-        Byte::Included => told::angle(angles::reported_included(IncludedCode(n))),
-        Byte::Orientation => told::angle(angles::reported_orientation(OrientationCode(n))),
-        Byte::UncertaintySpeed =>
-            told::uncertainty_speed(speeds::reported_uncertainty_speed(UncertaintySpeedCode(n))),
-        Byte::Confidence => told::confidence(confidences::reported_confidence(ConfidenceCode(n))),
-    }
+// The fields whose codes have a sign and a number.
+pub enum Signed {
+    Latitude,
+    Altitude,
+    VerticalSpeed,
 }
 
-pub fn reported_word(field: Word, n: u16) -> Told
-    ensures { λ r. ⌜ TellsWord field n r ⌝ }
+pub fn reported_byte(field: Byte, n: u32) -> Told
+    ensures { λ r. ⌜ TellsByte field n r ⌝ }
 {
+    if 255 < n {
+        return above_byte(field);
+    }
     match field {
-        Word::InnerRadius => told::length(lengths::reported_inner_radius(InnerRadiusCode(n))),
-        Word::Bearing => told::angle(angles::reported_bearing(BearingCode(n))),
-        Word::HorizontalSpeed => told::speed(speeds::reported_horizontal_speed(HorizontalSpeedCode(
-            n,
+        Byte::Uncertainty => told::radius(radii::reported_uncertainty(UncertaintyCode(n as u8))),
+        Byte::AltitudeUncertainty =>
+            told::radius(radii::reported_altitude_uncertainty(AltitudeUncertaintyCode(n as u8))),
+        Byte::Offset => told::angle(angles::reported_offset(OffsetCode(n as u8))),
+        Byte::Included => told::angle(angles::reported_included(IncludedCode(n as u8))),
+        Byte::Orientation => told::angle(angles::reported_orientation(OrientationCode(n as u8))),
+        Byte::UncertaintySpeed =>
+            told::uncertainty_speed(speeds::reported_uncertainty_speed(UncertaintySpeedCode(
+                n as u8,
+            ))),
+        Byte::Confidence => told::confidence(confidences::reported_confidence(ConfidenceCode(
+            n as u8,
         ))),
     }
 }
 
-pub fn reported_latitude(code: LatitudeCode) -> Told
-    ensures { λ r. ⌜ Tells latitude code r ⌝ }
+pub fn reported_word(field: Word, n: u32) -> Told
+    ensures { λ r. ⌜ TellsWord field n r ⌝ }
 {
-    told::coordinate(coordinates::reported_latitude(code))
+    if 65535 < n {
+        return above_word(field);
+    }
+    match field {
+        Word::InnerRadius => told::length(lengths::reported_inner_radius(InnerRadiusCode(
+            n as u16,
+        ))),
+        Word::Bearing => told::angle(angles::reported_bearing(BearingCode(n as u16))),
+        Word::HorizontalSpeed => told::speed(speeds::reported_horizontal_speed(HorizontalSpeedCode(
+            n as u16,
+        ))),
+    }
+}
+
+pub fn reported_signed(field: Signed, sign: bool, n: u32) -> Told
+    ensures { λ r. ⌜ TellsSigned field sign n r ⌝ }
+{
+    match field {
+        Signed::Latitude => told::coordinate(coordinates::reported_latitude(LatitudeCode(sign, n))),
+        Signed::Altitude => {
+            if 65535 < n {
+                return Told::Refused(Refusal::OutOfRange);
+            }
+            told::altitude(lengths::reported_altitude(AltitudeCode(sign, n as u16)))
+        }
+        Signed::VerticalSpeed => {
+            if 255 < n {
+                return Told::Refused(Refusal::OutOfRange);
+            }
+            told::vertical_speed(speeds::reported_vertical_speed(VerticalSpeedCode(sign, n as u8)))
+        }
+    }
 }
 
 pub fn reported_longitude(code: LongitudeCode) -> Told
@@ -77,14 +113,28 @@ pub fn reported_longitude(code: LongitudeCode) -> Told
     told::coordinate(coordinates::reported_longitude(code))
 }
 
-pub fn reported_altitude(code: AltitudeCode) -> Told
-    ensures { λ r. ⌜ Tells altitude code r ⌝ }
+// The refusal of a number that 8 bits can't hold.
+fn above_byte(field: Byte) -> Told
+    ensures { λ r. ⌜ r ≡ aboveByte field ⌝ }
 {
-    told::altitude(lengths::reported_altitude(code))
+    match field {
+        Byte::Uncertainty => Told::Refused(Refusal::OutOfRange),
+        Byte::AltitudeUncertainty => Told::Refused(Refusal::OutOfRange),
+        Byte::Offset => Told::Refused(Refusal::AngleCode),
+        Byte::Included => Told::Refused(Refusal::AngleCode),
+        Byte::Orientation => Told::Refused(Refusal::AngleCode),
+        Byte::UncertaintySpeed => Told::Refused(Refusal::OutOfRange),
+        Byte::Confidence => Told::Refused(Refusal::ConfidenceTooLarge),
+    }
 }
 
-pub fn reported_vertical_speed(code: VerticalSpeedCode) -> Told
-    ensures { λ r. ⌜ Tells verticalSpeed code r ⌝ }
+// The refusal of a number that 16 bits can't hold.
+fn above_word(field: Word) -> Told
+    ensures { λ r. ⌜ r ≡ aboveWord field ⌝ }
 {
-    told::vertical_speed(speeds::reported_vertical_speed(code))
+    match field {
+        Word::InnerRadius => Told::Refused(Refusal::OutOfRange),
+        Word::Bearing => Told::Refused(Refusal::AngleCode),
+        Word::HorizontalSpeed => Told::Refused(Refusal::OutOfRange),
+    }
 }

@@ -11,11 +11,17 @@ use ground::UncertaintySpeed;
 use lengths::AltitudeReported;
 use radii::RadiusReported;
 ghost use mathlib.Core.Path.{_≡_};
-ghost use Rattle.reporting.specs.Tells.{toldCoordinate, toldRadius, toldAltitude, toldAngle, toldUncertaintySpeed, toldPerCent, toldConfidence};
+ghost use Rattle.ground.specs.Answers.{tells};
+ghost use Rattle.coordinates.specs.Latitude.{saidCoordinate};
+ghost use Rattle.radii.specs.Radii.{saidRadius};
+ghost use Rattle.lengths.specs.Lengths.{saidAltitude};
+ghost use Rattle.angles.specs.Angles.{saidAngle};
+ghost use Rattle.confidences.specs.Confidences.{saidConfidence};
+ghost use Rattle.reporting.specs.Tells.{toldCoordinate, toldLength, toldAltitude, toldAngle, toldUncertaintySpeed, toldPerCent};
 ghost use Rattle.ground.specs.declared.told.Told.the-variants.{Natural, VerticalSpeed};
 
 pub fn coordinate(reported: CoordinateReported) -> Told
-    ensures { λ r. ⌜ r ≡ toldCoordinate reported ⌝ }
+    ensures { λ r. ⌜ r ≡ tells toldCoordinate (saidCoordinate reported) ⌝ }
 {
     match reported {
         CoordinateReported::Coordinate(x) => Told::Coordinate(x),
@@ -24,7 +30,7 @@ pub fn coordinate(reported: CoordinateReported) -> Told
 }
 
 pub fn radius(reported: RadiusReported) -> Told
-    ensures { λ r. ⌜ r ≡ toldRadius reported ⌝ }
+    ensures { λ r. ⌜ r ≡ tells toldLength (saidRadius reported) ⌝ }
 {
     match reported {
         RadiusReported::Radius(x) => Told::Natural(x.0),
@@ -33,7 +39,7 @@ pub fn radius(reported: RadiusReported) -> Told
 }
 
 pub fn altitude(reported: AltitudeReported) -> Told
-    ensures { λ r. ⌜ r ≡ toldAltitude reported ⌝ }
+    ensures { λ r. ⌜ r ≡ tells toldAltitude (saidAltitude reported) ⌝ }
 {
     match reported {
         AltitudeReported::Altitude(x) => Told::Altitude(x),
@@ -42,7 +48,7 @@ pub fn altitude(reported: AltitudeReported) -> Told
 }
 
 pub fn angle(reported: AngleReported) -> Told
-    ensures { λ r. ⌜ r ≡ toldAngle reported ⌝ }
+    ensures { λ r. ⌜ r ≡ tells toldAngle (saidAngle reported) ⌝ }
 {
     match reported {
         AngleReported::Angle(x) => Told::Natural(x.0),
@@ -78,7 +84,7 @@ pub fn uncertainty_speed(x: UncertaintySpeed) -> Told
 }
 
 pub fn confidence(reported: ConfidenceReported) -> Told
-    ensures { λ r. ⌜ r ≡ toldConfidence reported ⌝ }
+    ensures { λ r. ⌜ r ≡ tells toldPerCent (saidConfidence reported) ⌝ }
 {
     match reported {
         ConfidenceReported::Confidence(x) => per_cent(x),

@@ -2,3 +2,4 @@ pub mod OutputLaws
 pub mod MarkLaws
 pub mod NumeralLaws
 pub mod ReadBack
+pub mod WidthLaws

@@ -1,3 +1,4 @@
 pub mod Text
 pub mod Marks
 pub mod Numerals
+pub mod Widths

@@ -1,8 +1,9 @@
 // The text of the programs: numbers and octets put into a lent buffer, the ends of lines and fields, and numbers read
-// from fields.
+// from fields, of some width.
 mod marks;
 mod numerals;
 mod output;
+mod widths;
 
 pub use marks::field_end;
 pub use marks::line_end;
@@ -12,3 +13,11 @@ pub use output::put_byte;
 pub use output::put_bytes;
 pub use output::put_decimal;
 pub use output::put_number;
+pub use widths::Signed32;
+pub use widths::Signed64;
+pub use widths::Size;
+pub use widths::Unsigned32;
+pub use widths::signed_32;
+pub use widths::signed_64;
+pub use widths::size_of;
+pub use widths::unsigned_32;

@@ -1,5 +1,6 @@
 -- `coding::coded_coordinate` meets its contract: each arm tells what its coder answers. Assumes nothing.
 use mathlib.Core.Path.{subst⁻¹}
+use Rattle.fields.specs.Fields.{latitude, longitude, saidCode}
 use Rattle.coding.specs.Tells.{TellsCoordinate}
 use Rattle.coding.specs.declared.Coordinate.{Coordinate}
 use borrow.Author.Needs.{needs}
@@ -27,12 +28,12 @@ longitude-requires c κs = search needs
 returns : tie.Need-returns
 returns c =
     subst⁻¹ (λ (k : Coordinate). TellsCoordinate k (c .before .before .before .before .args .x) (c .latitude .result)) (c .before .before .enum-told .given .1)
-    (record { answer = c .before .latitude-code .result; promise = c .before .latitude-code .ensures; told = c .latitude .ensures })
+    (record { said = saidCode latitude (c .before .latitude-code .result); promise = c .before .latitude-code .ensures; told = c .latitude .ensures })
 
 returns-2 : tie.Need-returns-2
 returns-2 c =
     subst⁻¹ (λ (k : Coordinate). TellsCoordinate k (c .before .before .before .before .args .x) (c .longitude .result)) (c .before .before .enum-told2 .given .1)
-    (record { answer = c .before .longitude-code .result; promise = c .before .longitude-code .ensures; told = c .longitude .ensures })
+    (record { said = saidCode longitude (c .before .longitude-code .result); promise = c .before .longitude-code .ensures; told = c .longitude .ensures })
 
 pub coded-coordinate-spec : {M : Type 1} → statement M
 coded-coordinate-spec =

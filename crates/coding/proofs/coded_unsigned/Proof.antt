@@ -1,5 +1,7 @@
 -- `coding::coded_unsigned` meets its contract: each arm tells what its coder answers. Assumes nothing.
 use mathlib.Core.Path.{subst⁻¹}
+use Rattle.ground.specs.Answers.{done}
+use Rattle.fields.specs.Fields.{uncertainty, altitudeUncertainty, offset, included, orientation, bearing, uncertaintySpeed, confidence, saidCode}
 use Rattle.coding.specs.Tells.{TellsUnsigned}
 use Rattle.coding.specs.declared.Unsigned.{Unsigned}
 use borrow.Author.Needs.{needs}
@@ -78,45 +80,73 @@ horizontal-speed-code-requires c κs = search needs
 horizontal-speed-requires : tie.Need-horizontal-speed-requires
 horizontal-speed-requires c κs = search needs
 
+enum-told-9 : tie.Need-enum-told-9
+enum-told-9 c = search needs
+
+uncertainty-speed-code-requires : tie.Need-uncertainty-speed-code-requires
+uncertainty-speed-code-requires c κs = search needs
+
+uncertainty-speed-requires : tie.Need-uncertainty-speed-requires
+uncertainty-speed-requires c κs = search needs
+
+enum-told-10 : tie.Need-enum-told-10
+enum-told-10 c = search needs
+
+confidence-code-requires : tie.Need-confidence-code-requires
+confidence-code-requires c κs = search needs
+
+confidence-requires : tie.Need-confidence-requires
+confidence-requires c κs = search needs
+
 returns : tie.Need-returns
 returns c =
     subst⁻¹ (λ (k : Unsigned). TellsUnsigned k (c .before .before .before .before .args .x) (c .uncertainty .result)) (c .before .before .enum-told .given .1)
-    (record { answer = c .before .uncertainty-code .result; promise = c .before .uncertainty-code .ensures; told = c .uncertainty .ensures })
+    (record { said = saidCode uncertainty (c .before .uncertainty-code .result); promise = c .before .uncertainty-code .ensures; told = c .uncertainty .ensures })
 
 returns-2 : tie.Need-returns-2
 returns-2 c =
     subst⁻¹ (λ (k : Unsigned). TellsUnsigned k (c .before .before .before .before .args .x) (c .altitude-uncertainty .result)) (c .before .before .enum-told2 .given .1)
-    (record { answer = c .before .altitude-uncertainty-code .result; promise = c .before .altitude-uncertainty-code .ensures; told = c .altitude-uncertainty .ensures })
+    (record { said = saidCode altitudeUncertainty (c .before .altitude-uncertainty-code .result); promise = c .before .altitude-uncertainty-code .ensures; told = c .altitude-uncertainty .ensures })
 
 returns-3 : tie.Need-returns-3
 returns-3 c =
     subst⁻¹ (λ (k : Unsigned). TellsUnsigned k (c .before .before .before .before .args .x) (c .inner-radius .result)) (c .before .before .enum-told3 .given .1)
-    (record { answer = c .before .inner-radius-code .result; promise = c .before .inner-radius-code .ensures; told = c .inner-radius .ensures })
+    (record { said = done (c .before .inner-radius-code .result); promise = c .before .inner-radius-code .ensures; told = c .inner-radius .ensures })
 
 returns-4 : tie.Need-returns-4
 returns-4 c =
     subst⁻¹ (λ (k : Unsigned). TellsUnsigned k (c .before .before .before .before .args .x) (c .offset .result)) (c .before .before .enum-told4 .given .1)
-    (record { answer = c .before .offset-code .result; promise = c .before .offset-code .ensures; told = c .offset .ensures })
+    (record { said = saidCode offset (c .before .offset-code .result); promise = c .before .offset-code .ensures; told = c .offset .ensures })
 
 returns-5 : tie.Need-returns-5
 returns-5 c =
     subst⁻¹ (λ (k : Unsigned). TellsUnsigned k (c .before .before .before .before .args .x) (c .included .result)) (c .before .before .enum-told5 .given .1)
-    (record { answer = c .before .included-code .result; promise = c .before .included-code .ensures; told = c .included .ensures })
+    (record { said = saidCode included (c .before .included-code .result); promise = c .before .included-code .ensures; told = c .included .ensures })
 
 returns-6 : tie.Need-returns-6
 returns-6 c =
     subst⁻¹ (λ (k : Unsigned). TellsUnsigned k (c .before .before .before .before .args .x) (c .orientation .result)) (c .before .before .enum-told6 .given .1)
-    (record { answer = c .before .orientation-code .result; promise = c .before .orientation-code .ensures; told = c .orientation .ensures })
+    (record { said = saidCode orientation (c .before .orientation-code .result); promise = c .before .orientation-code .ensures; told = c .orientation .ensures })
 
 returns-7 : tie.Need-returns-7
 returns-7 c =
     subst⁻¹ (λ (k : Unsigned). TellsUnsigned k (c .before .before .before .before .args .x) (c .bearing .result)) (c .before .before .enum-told7 .given .1)
-    (record { answer = c .before .bearing-code .result; promise = c .before .bearing-code .ensures; told = c .bearing .ensures })
+    (record { said = saidCode bearing (c .before .bearing-code .result); promise = c .before .bearing-code .ensures; told = c .bearing .ensures })
 
 returns-8 : tie.Need-returns-8
 returns-8 c =
     subst⁻¹ (λ (k : Unsigned). TellsUnsigned k (c .before .before .before .before .args .x) (c .horizontal-speed .result)) (c .before .before .enum-told8 .given .1)
-    (record { answer = c .before .horizontal-speed-code .result; promise = c .before .horizontal-speed-code .ensures; told = c .horizontal-speed .ensures })
+    (record { said = done (c .before .horizontal-speed-code .result); promise = c .before .horizontal-speed-code .ensures; told = c .horizontal-speed .ensures })
+
+returns-9 : tie.Need-returns-9
+returns-9 c =
+    subst⁻¹ (λ (k : Unsigned). TellsUnsigned k (c .before .before .before .before .args .x) (c .uncertainty-speed .result)) (c .before .before .enum-told9 .given .1)
+    (record { said = saidCode uncertaintySpeed (c .before .uncertainty-speed-code .result); promise = c .before .uncertainty-speed-code .ensures; told = c .uncertainty-speed .ensures })
+
+returns-10 : tie.Need-returns-10
+returns-10 c =
+    subst⁻¹ (λ (k : Unsigned). TellsUnsigned k (c .before .before .before .before .args .x) (c .confidence .result)) (c .before .before .enum-told10 .given .1)
+    (record { said = saidCode confidence (c .before .confidence-code .result); promise = c .before .confidence-code .ensures; told = c .confidence .ensures })
 
 pub coded-unsigned-spec : {M : Type 1} → statement M
 coded-unsigned-spec =
@@ -146,6 +176,12 @@ coded-unsigned-spec =
     enum-told-8
     horizontal-speed-code-requires
     horizontal-speed-requires
+    enum-told-9
+    uncertainty-speed-code-requires
+    uncertainty-speed-requires
+    enum-told-10
+    confidence-code-requires
+    confidence-requires
     returns
     returns-2
     returns-3
@@ -153,4 +189,6 @@ coded-unsigned-spec =
     returns-5
     returns-6
     returns-7
-    returns-8)
+    returns-8
+    returns-9
+    returns-10)

@@ -1,6 +1,8 @@
 -- `coding::told::longitude` meets its contract, in each arm for the answer that it matched. Assumes nothing.
-use mathlib.Core.Path.{sym, ap}
-use Rattle.coding.specs.Tells.{toldCode}
+use mathlib.Core.Path.{sym, ap, _∙_}
+use Rattle.ground.proofs.AnswerLaws.{refusal-back}
+use Rattle.ground.specs.declared.told.Told.the-variants.{Refused}
+use Rattle.coding.specs.Tells.{toldBy}
 use Rattle.fields.specs.Fields.{longitude}
 use borrow.Author.Needs.{needs}
 use Rattle.coding.proofs.told.longitude.Statement.{statement}
@@ -13,10 +15,10 @@ enum-known-coded-2 : tie.Need-enum-known-coded-2
 enum-known-coded-2 c = search needs
 
 returns : tie.Need-returns
-returns c = sym (ap (toldCode longitude) (c .before .coded .given .1))
+returns c = sym (ap (toldBy longitude) (c .before .coded .given .1))
 
 returns-2 : tie.Need-returns-2
-returns-2 c = sym (ap (toldCode longitude) (c .before .coded2 .given .1))
+returns-2 c = sym (ap (toldBy longitude) (c .before .coded2 .given .1) ∙ ap Refused (refusal-back _))
 
 pub longitude-spec : {M : Type 1} → statement M
 longitude-spec = tie.close (tie.spec enum-known-coded enum-known-coded-2 returns returns-2)

@@ -1,6 +1,8 @@
 -- `coding::told::offset` meets its contract, in each arm for the answer that it matched. Assumes nothing.
-use mathlib.Core.Path.{sym, ap}
-use Rattle.coding.specs.Tells.{toldCode}
+use mathlib.Core.Path.{sym, ap, _∙_}
+use Rattle.ground.proofs.AnswerLaws.{refusal-back}
+use Rattle.ground.specs.declared.told.Told.the-variants.{Refused}
+use Rattle.coding.specs.Tells.{toldBy}
 use Rattle.fields.specs.Fields.{offset}
 use borrow.Author.Needs.{needs}
 use Rattle.coding.proofs.told.offset.Statement.{statement}
@@ -16,10 +18,10 @@ enum-known-coded-2 : tie.Need-enum-known-coded-2
 enum-known-coded-2 c = search needs
 
 returns : tie.Need-returns
-returns c = sym (ap (toldCode offset) (c .before .before .coded .given .1))
+returns c = sym (ap (toldBy offset) (c .before .before .coded .given .1))
 
 returns-2 : tie.Need-returns-2
-returns-2 c = sym (ap (toldCode offset) (c .before .coded2 .given .1))
+returns-2 c = sym (ap (toldBy offset) (c .before .coded2 .given .1) ∙ ap Refused (refusal-back _))
 
 pub offset-spec : {M : Type 1} → statement M
 offset-spec = tie.close (tie.spec enum-known-coded cast-t5 enum-known-coded-2 returns returns-2)

@@ -1,5 +1,10 @@
 -- `reporting::told::altitude` meets its contract, in each arm for the answer that it matched. Assumes nothing.
-use mathlib.Core.Path.{sym, ap}
+use mathlib.Core.Path.{sym, ap, _∙_}
+use Rattle.ground.proofs.AnswerLaws.{refusal-back}
+use Rattle.ground.specs.declared.told.Told.the-variants.{Refused}
+use Rattle.ground.specs.Answers.{tells}
+use Rattle.lengths.specs.Lengths.{saidAltitude}
+use Rattle.lengths.specs.declared.AltitudeReported.{AltitudeReported}
 use Rattle.reporting.specs.Tells.{toldAltitude}
 use borrow.Author.Needs.{needs}
 use Rattle.reporting.proofs.told.altitude.Statement.{statement}
@@ -12,10 +17,10 @@ enum-known-reported-2 : tie.Need-enum-known-reported-2
 enum-known-reported-2 c = search needs
 
 returns : tie.Need-returns
-returns c = sym (ap toldAltitude (c .before .reported .given .1))
+returns c = sym (ap (λ (q : AltitudeReported). tells toldAltitude (saidAltitude q)) (c .before .reported .given .1))
 
 returns-2 : tie.Need-returns-2
-returns-2 c = sym (ap toldAltitude (c .before .reported2 .given .1))
+returns-2 c = sym (ap (λ (q : AltitudeReported). tells toldAltitude (saidAltitude q)) (c .before .reported2 .given .1) ∙ ap Refused (refusal-back _))
 
 pub altitude-spec : {M : Type 1} → statement M
 altitude-spec = tie.close (tie.spec enum-known-reported enum-known-reported-2 returns returns-2)

@@ -1,4 +1,4 @@
--- `reporting::told::uncertainty_speed` meets its contract, in each arm for the answer that it matched. Assumes nothing.
+-- `reporting::told::uncertainty_speed` meets its contract, in each arm for the quantity that it matched. Assumes nothing.
 use mathlib.Core.Path.{sym, ap}
 use Rattle.reporting.specs.Tells.{toldUncertaintySpeed}
 use borrow.Author.Needs.{needs}
