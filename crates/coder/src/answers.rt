@@ -1,5 +1,4 @@
 // The answer to a line, and its text.
-use ground::Refusal;
 use ground::Told;
 use ground::Whole;
 ghost use Prim.Native.Nat.{_+_, _≤_};
@@ -15,26 +14,10 @@ pub enum Printed {
     Two(bool, Whole),
 }
 
-fn number_of(why: Refusal) -> u64 {
-    match why {
-        Refusal::NoOctets => 1,
-        Refusal::UnknownType => 2,
-        Refusal::WrongLength => 3,
-        Refusal::PolygonCount => 4,
-        Refusal::AngleCode => 5,
-        Refusal::ConfidenceTooLarge => 6,
-        Refusal::OutOfRange => 7,
-        Refusal::UncertaintyTooLarge => 8,
-        Refusal::NoneHolds => 9,
-        Refusal::BufferTooShort => 10,
-        Refusal::FrameBroken => 11,
-    }
-}
-
 // What a coder or a reporter told.
 pub fn of_told(told: Told) -> Printed {
     match told {
-        Told::Refused(why) => Printed::Refused(number_of(why)),
+        Told::Refused(why) => Printed::Refused(ground::refusal_number(why)),
         Told::Missing => Printed::Missing,
         Told::Natural(n) => Printed::One(Whole(n as i64)),
         Told::Signed(sign, n) => Printed::Two(sign, Whole(n as i64)),

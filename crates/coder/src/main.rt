@@ -5,7 +5,6 @@ mod code_lines;
 mod lines;
 mod names;
 mod report_lines;
-mod widths;
 
 ghost use Prim.Native.Nat.{_+_, _≤_};
 ghost use mathlib.Core.Path.{_≡_};

@@ -29,6 +29,7 @@ pub use quantities::SignedMetresPerHour;
 pub use quantities::SignedMillimetres;
 pub use quantities::UncertaintySpeed;
 pub use refusals::Refusal;
+pub use refusals::refusal_number;
 pub use signs::Parts;
 pub use signs::Whole;
 pub use signs::joined;

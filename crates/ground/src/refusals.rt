@@ -1,4 +1,7 @@
 // Document 01's refusals, in the order of their numbers, 1 to 11. 0, done, is no refusal.
+ghost use mathlib.Core.Path.{_≡_};
+ghost use Rattle.ground.specs.Answers.{numberOf};
+
 pub enum Refusal {
     NoOctets,
     UnknownType,
@@ -11,4 +14,22 @@ pub enum Refusal {
     NoneHolds,
     BufferTooShort,
     FrameBroken,
+}
+
+pub fn refusal_number(why: Refusal) -> u64
+    ensures { λ r. ⌜ r ≡ numberOf why ⌝ }
+{
+    match why {
+        Refusal::NoOctets => 1,
+        Refusal::UnknownType => 2,
+        Refusal::WrongLength => 3,
+        Refusal::PolygonCount => 4,
+        Refusal::AngleCode => 5,
+        Refusal::ConfidenceTooLarge => 6,
+        Refusal::OutOfRange => 7,
+        Refusal::UncertaintyTooLarge => 8,
+        Refusal::NoneHolds => 9,
+        Refusal::BufferTooShort => 10,
+        Refusal::FrameBroken => 11,
+    }
 }

@@ -7,8 +7,8 @@ use Rattle.coder.proofs.answers.of_told.Tie as tie
 enum-known-told : tie.Need-enum-known-told
 enum-known-told c = search needs
 
-number-of-requires : tie.Need-number-of-requires
-number-of-requires c κs = search needs
+refusal-number-requires : tie.Need-refusal-number-requires
+refusal-number-requires c κs = search needs
 
 enum-told : tie.Need-enum-told
 enum-told c = search needs
@@ -75,7 +75,7 @@ of-told-spec =
     tie.close
     (tie.spec
     enum-known-told
-    number-of-requires
+    refusal-number-requires
     enum-told
     enum-known-told-2
     cast-t12

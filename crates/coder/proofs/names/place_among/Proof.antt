@@ -1,9 +1,9 @@
--- `coder::names::place_of` is safe and ends: each turn goes to the next name. Assumes nothing.
+-- `coder::names::place_among` is safe and ends: each turn goes to the next name. Assumes nothing.
 use Prim.Native.Nat.{_-_, _≤_}
 use borrow.Author.Needs.{needs}
 use lib.ListN.{length}
-use Rattle.coder.proofs.names.place_of.Statement.{statement}
-use Rattle.coder.proofs.names.place_of.Tie as tie
+use Rattle.coder.proofs.names.place_among.Statement.{statement}
+use Rattle.coder.proofs.names.place_among.Tie as tie
 
 abbrev Inv-loop : tie.InvT-loop
 Inv-loop s names place₀ from₀ place from = (from ≤ length names) × (place ≤ from)
@@ -50,8 +50,8 @@ loop-again c = search needs
 returns-3 : tie.Need-returns-3 Inv-loop μ-loop
 returns-3 c = search needs
 
-pub place-of-spec : {M : Type 1} → statement M
-place-of-spec =
+pub place-among-spec : {M : Type 1} → statement M
+place-among-spec =
     tie.close
     (tie.spec
     Inv-loop
