@@ -27,18 +27,26 @@ fn unsigned(place: usize, size: Size) -> Printed {
     };
     let code = least(n);
     match place {
-        2 => answers::of_told(reporting::reported_byte(Byte::Uncertainty, code)),
-        3 => answers::of_told(reporting::reported_byte(Byte::AltitudeUncertainty, code)),
-        5 => answers::of_told(reporting::reported_word(Word::InnerRadius, code)),
-        6 => answers::of_told(reporting::reported_byte(Byte::Offset, code)),
-        7 => answers::of_told(reporting::reported_byte(Byte::Included, code)),
-        8 => answers::of_told(reporting::reported_byte(Byte::Orientation, code)),
-        9 => answers::of_told(reporting::reported_word(Word::Bearing, code)),
-        10 => answers::of_told(reporting::reported_word(Word::HorizontalSpeed, code)),
-        12 => answers::of_told(reporting::reported_byte(Byte::UncertaintySpeed, code)),
-        13 => answers::of_told(reporting::reported_byte(Byte::Confidence, code)),
+        2 => byte(Byte::Uncertainty, code),
+        3 => byte(Byte::AltitudeUncertainty, code),
+        5 => word(Word::InnerRadius, code),
+        6 => byte(Byte::Offset, code),
+        7 => byte(Byte::Included, code),
+        8 => byte(Byte::Orientation, code),
+        9 => word(Word::Bearing, code),
+        10 => word(Word::HorizontalSpeed, code),
+        12 => byte(Byte::UncertaintySpeed, code),
+        13 => byte(Byte::Confidence, code),
         _ => Printed::Unreadable,
     }
+}
+
+fn byte(field: Byte, code: u32) -> Printed {
+    answers::of_told(reporting::reported_byte(field, code))
+}
+
+fn word(field: Word, code: u32) -> Printed {
+    answers::of_told(reporting::reported_word(field, code))
 }
 
 fn longitude(n: Numeral) -> Printed {

@@ -85,13 +85,13 @@ pub fn coded_missing(field: Markable) -> Told
 pub fn coded_altitude(x: SignedMillimetres) -> Told
     ensures { λ r. ⌜ Tells altitude x r ⌝ }
 {
-    let c = lengths::altitude_code(x);
-    Told::Signed(c.0, c.1 as u32)
+    let altitude = lengths::altitude_code(x);
+    Told::Signed(altitude.0, altitude.1 as u32)
 }
 
 pub fn coded_vertical_speed(x: SignedMetresPerHour) -> Told
     ensures { λ r. ⌜ Tells verticalSpeed x r ⌝ }
 {
-    let c = speeds::vertical_speed_code(x);
-    Told::Signed(c.0, c.1 as u32)
+    let speed = speeds::vertical_speed_code(x);
+    Told::Signed(speed.0, speed.1 as u32)
 }
