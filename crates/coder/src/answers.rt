@@ -1,32 +1,8 @@
-// The answer to a line, and its text.
-use ground::Told;
+// The text of an answer.
 use ground::Whole;
+use lines::Printed;
 ghost use Prim.Native.Nat.{_+_, _≤_};
 ghost use lib.ListN.{length};
-
-pub enum Printed {
-    Unreadable,
-    // document 01's number
-    Refused(u64),
-    Missing,
-    One(Whole),
-    // a sign, and the number after it
-    Two(bool, Whole),
-}
-
-// What a coder or a reporter told.
-pub fn of_told(told: Told) -> Printed {
-    match told {
-        Told::Refused(why) => Printed::Refused(ground::refusal_number(why)),
-        Told::Missing => Printed::Missing,
-        Told::Natural(n) => Printed::One(Whole(n as i64)),
-        Told::Signed(sign, n) => Printed::Two(sign, Whole(n as i64)),
-        Told::Longitude(code) => Printed::One(Whole(code.0 as i64)),
-        Told::Coordinate(x) => Printed::One(Whole(x.0)),
-        Told::Altitude(x) => Printed::One(Whole(x.0 as i64)),
-        Told::VerticalSpeed(x) => Printed::One(Whole(x.0 as i64)),
-    }
-}
 
 // Puts the line's number and its answer.
 pub fn put_line(out: &mut [u8], at: usize, number: u64, printed: Printed) -> usize

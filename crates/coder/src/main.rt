@@ -1,11 +1,8 @@
 // Codes quantities, and reports codes: each line of standard input is answered by a line of standard output, its number,
 // the answer, and on 0 the code or the quantity. A last line says how many there were.
 mod answers;
-mod code_lines;
-mod lines;
-mod names;
-mod report_lines;
 
+use lines::Printed;
 ghost use Prim.Native.Nat.{_+_, _≤_};
 ghost use mathlib.Core.Path.{_≡_};
 ghost use lib.ListN.{length};
@@ -80,7 +77,7 @@ fn end_line(out: &mut [u8], line: &[u8], h: Held) -> Held
     let used = t.used;
     let lines = counted(t.lines);
     if LONGEST_LINE < used {
-        let put = answers::put_line(out, t.put, lines, answers::Printed::Unreadable);
+        let put = answers::put_line(out, t.put, lines, Printed::Unreadable);
         return Held {
             used: 0,
             put,

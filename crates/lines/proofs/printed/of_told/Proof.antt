@@ -1,8 +1,8 @@
--- `coder::answers::of_told` is safe: a number of 32 bits fits 64. Assumes nothing.
+-- `lines::printed::of_told` is safe: a number of 32 bits fits 64. Assumes nothing.
 use Rattle.ground.proofs.SignLaws.{wide-fits}
 use borrow.Author.Needs.{needs}
-use Rattle.coder.proofs.answers.of_told.Statement.{statement}
-use Rattle.coder.proofs.answers.of_told.Tie as tie
+use Rattle.lines.proofs.printed.of_told.Statement.{statement}
+use Rattle.lines.proofs.printed.of_told.Tie as tie
 
 enum-known-told : tie.Need-enum-known-told
 enum-known-told c = search needs

@@ -1,7 +1,6 @@
 // A quantity's code. A quantity that does not fit the width in which it arrives makes its line unreadable.
-use crate::answers;
-use crate::answers::Printed;
-use crate::names;
+use crate::printed;
+use crate::printed::Printed;
 use coding::Coordinate;
 use coding::Markable;
 use coding::Unsigned;
@@ -43,20 +42,20 @@ fn coordinate(field: Coordinate, n: Numeral) -> Printed {
     let Signed64::Number(x) = text::signed_64(n) else {
         return Printed::Unreadable;
     };
-    answers::of_told(coding::coded_coordinate(field, Nanodegrees(x)))
+    printed::of_told(coding::coded_coordinate(field, Nanodegrees(x)))
 }
 
 fn unsigned(field: Unsigned, n: Numeral) -> Printed {
     let Unsigned32::Number(x) = text::unsigned_32(n) else {
         return Printed::Unreadable;
     };
-    answers::of_told(coding::coded_unsigned(field, x))
+    printed::of_told(coding::coded_unsigned(field, x))
 }
 
 // A dash is a missing quantity.
 fn markable(missing: Markable, given: Unsigned, field: &[u8]) -> Printed {
-    if names::same(field, b"-") {
-        return answers::of_told(coding::coded_missing(missing));
+    if check::same(field, b"-") {
+        return printed::of_told(coding::coded_missing(missing));
     }
     unsigned(given, text::number_in(field))
 }
@@ -65,12 +64,12 @@ fn altitude(n: Numeral) -> Printed {
     let Signed32::Number(x) = text::signed_32(n) else {
         return Printed::Unreadable;
     };
-    answers::of_told(coding::coded_altitude(SignedMillimetres(x)))
+    printed::of_told(coding::coded_altitude(SignedMillimetres(x)))
 }
 
 fn vertical_speed(n: Numeral) -> Printed {
     let Signed32::Number(x) = text::signed_32(n) else {
         return Printed::Unreadable;
     };
-    answers::of_told(coding::coded_vertical_speed(SignedMetresPerHour(x)))
+    printed::of_told(coding::coded_vertical_speed(SignedMetresPerHour(x)))
 }

@@ -1,6 +1,6 @@
 // A code's quantity. A number that is no code of the field is refused; what is no number makes its line unreadable.
-use crate::answers;
-use crate::answers::Printed;
+use crate::printed;
+use crate::printed::Printed;
 use ground::LongitudeCode;
 use reporting::Byte;
 use reporting::Signed;
@@ -27,33 +27,25 @@ fn unsigned(place: usize, size: Size) -> Printed {
     };
     let code = least(n);
     match place {
-        2 => byte(Byte::Uncertainty, code),
-        3 => byte(Byte::AltitudeUncertainty, code),
-        5 => word(Word::InnerRadius, code),
-        6 => byte(Byte::Offset, code),
-        7 => byte(Byte::Included, code),
-        8 => byte(Byte::Orientation, code),
-        9 => word(Word::Bearing, code),
-        10 => word(Word::HorizontalSpeed, code),
-        12 => byte(Byte::UncertaintySpeed, code),
-        13 => byte(Byte::Confidence, code),
+        2 => printed::of_told(reporting::reported_byte(Byte::Uncertainty, code)),
+        3 => printed::of_told(reporting::reported_byte(Byte::AltitudeUncertainty, code)),
+        5 => printed::of_told(reporting::reported_word(Word::InnerRadius, code)),
+        6 => printed::of_told(reporting::reported_byte(Byte::Offset, code)),
+        7 => printed::of_told(reporting::reported_byte(Byte::Included, code)),
+        8 => printed::of_told(reporting::reported_byte(Byte::Orientation, code)),
+        9 => printed::of_told(reporting::reported_word(Word::Bearing, code)),
+        10 => printed::of_told(reporting::reported_word(Word::HorizontalSpeed, code)),
+        12 => printed::of_told(reporting::reported_byte(Byte::UncertaintySpeed, code)),
+        13 => printed::of_told(reporting::reported_byte(Byte::Confidence, code)),
         _ => Printed::Unreadable,
     }
-}
-
-fn byte(field: Byte, code: u32) -> Printed {
-    answers::of_told(reporting::reported_byte(field, code))
-}
-
-fn word(field: Word, code: u32) -> Printed {
-    answers::of_told(reporting::reported_word(field, code))
 }
 
 fn longitude(n: Numeral) -> Printed {
     let Signed32::Number(x) = text::signed_32(n) else {
         return outside(text::size_of(n));
     };
-    answers::of_told(reporting::reported_longitude(LongitudeCode(x)))
+    printed::of_told(reporting::reported_longitude(LongitudeCode(x)))
 }
 
 // A code of two numbers, the first of them 0 or 1.
@@ -76,7 +68,7 @@ fn with_sign(field: Signed, sign: Size, size: Size) -> Printed {
             let Size::Code(n) = size else {
                 return outside(size);
             };
-            answers::of_told(reporting::reported_signed(field, s == 1, least(n)))
+            printed::of_told(reporting::reported_signed(field, s == 1, least(n)))
         }
         Size::Below => outside(size),
         Size::Nothing => Printed::Unreadable,

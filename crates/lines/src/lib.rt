@@ -1,19 +1,24 @@
-// A line's answer: `code NAME QUANTITY` or `report NAME CODE..`, with one space between two fields.
-use crate::answers::Printed;
-use crate::code_lines;
-use crate::names;
-use crate::report_lines;
+// A line of the coder's input, `code NAME QUANTITY` or `report NAME CODE..` with one space between two fields, and its answer.
+mod code_lines;
+mod names;
+mod printed;
+mod report_lines;
 
-pub fn answer(line: &[u8]) -> Printed {
+pub use printed::Printed;
+ghost use Rattle.lines.specs.Lines.{Answered};
+
+pub fn answer(line: &[u8]) -> Printed
+    ensures { λ r. ⌜ Answered (now (line .entry)) r ⌝ }
+{
     let end = text::field_end(line, 0);
     if end == line.len() {
         return Printed::Unreadable;
     }
     let from = end + 1;
-    if names::same(&line[0..end], b"code") {
+    if check::same(&line[0..end], b"code") {
         return named(true, &line[from..]);
     }
-    if names::same(&line[0..end], b"report") {
+    if check::same(&line[0..end], b"report") {
         return named(false, &line[from..]);
     }
     Printed::Unreadable

@@ -12,7 +12,7 @@ fn place_among(s: &[u8], names: &[u8]) -> usize {
     let mut from: usize = 0;
     while from < names.len() {
         let end = text::field_end(names, from);
-        if same(s, &names[from..end]) {
+        if check::same(s, &names[from..end]) {
             return place;
         }
         if end == names.len() {
@@ -22,19 +22,4 @@ fn place_among(s: &[u8], names: &[u8]) -> usize {
         from = end + 1;
     }
     names.len()
-}
-
-// Whether the two are the same octets.
-pub fn same(s: &[u8], t: &[u8]) -> bool {
-    if s.len() != t.len() {
-        return false;
-    }
-    let mut i = 0;
-    while i < s.len() {
-        if s[i] != t[i] {
-            return false;
-        }
-        i += 1;
-    }
-    true
 }

@@ -1,9 +1,9 @@
--- `coder::names::place_among` is safe and ends: each turn goes to the next name. Assumes nothing.
+-- `lines::names::place_among` is safe and ends: each turn goes to the next name. Assumes nothing.
 use Prim.Native.Nat.{_-_, _≤_}
 use borrow.Author.Needs.{needs}
 use lib.ListN.{length}
-use Rattle.coder.proofs.names.place_among.Statement.{statement}
-use Rattle.coder.proofs.names.place_among.Tie as tie
+use Rattle.lines.proofs.names.place_among.Statement.{statement}
+use Rattle.lines.proofs.names.place_among.Tie as tie
 
 abbrev Inv-loop : tie.InvT-loop
 Inv-loop s names place₀ from₀ place from = (from ≤ length names) × (place ≤ from)
