@@ -1,8 +1,6 @@
 // Codes quantities, and reports codes: each line of standard input is answered by a line of standard output, its number,
 // the answer, and on 0 the code or the quantity. A last line says how many there were.
-mod answers;
-
-use lines::Printed;
+use printing::Printed;
 ghost use Prim.Native.Nat.{_+_, _≤_};
 ghost use mathlib.Core.Path.{_≡_};
 ghost use lib.ListN.{length};
@@ -10,6 +8,9 @@ ghost use Rattle.coder.specs.Held.{Sound};
 
 // A line of more octets is unreadable.
 const LONGEST_LINE: usize = 4096;
+
+// The answers that are put before they are written take no more octets.
+const ROOM: usize = 4096;
 
 // No answer takes more octets.
 const LONGEST_ANSWER: usize = 46;
@@ -26,8 +27,7 @@ struct Held {
 }
 
 // Adds a piece of a line to what is held of it, and answers how many octets that makes.
-fn hold(line: &mut [u8], used: usize, piece: &[u8]) -> usize
-    requires { ⌜ length (now line) ≡ 4096 ⌝ }
+fn hold(line: &mut [u8; 4096], used: usize, piece: &[u8]) -> usize
     ensures { λ r. ⌜ r ≤ 4097 ⌝ }
 {
     if LONGEST_LINE < used {
@@ -39,53 +39,51 @@ fn hold(line: &mut [u8], used: usize, piece: &[u8]) -> usize
     text::put_bytes(line, used, piece)
 }
 
+// Writes the answers that are put, and says whether that was done.
+fn written(out: &[u8], put: usize) -> bool
+    requires { ⌜ put ≤ length (now out) ⌝ }
+{
+    io::write_all(1, &out[0..put])
+}
+
 // Writes the answers if there is no room for one more.
-fn make_room(out: &[u8], h: Held) -> Held
+fn make_room(out: &[u8; 4096], h: Held) -> Held
     requires { ⌜ Sound h ⌝ }
-    requires { ⌜ length (now out) ≡ 4096 ⌝ }
     ensures { λ r. ⌜ Sound r × (r .put + 46 ≤ 4096) ⌝ }
 {
-    let put = h.put;
-    if out.len() - put < LONGEST_ANSWER {
-        let written = io::write_all(1, &out[0..put]);
+    if ROOM - h.put < LONGEST_ANSWER {
+        let done = written(out, h.put);
         return Held {
             used: h.used,
             put: 0,
             lines: h.lines,
-            closed: !written,
+            closed: !done,
         };
     }
     h
 }
 
-// One line more; no input has more than 64 bits can count.
-fn counted(lines: u64) -> u64 {
-    if lines == u64::MAX {
-        return lines;
+// What is printed for the line that is held.
+fn printed(line: &[u8], used: usize) -> Printed
+    requires { ⌜ length (now line) ≡ 4096 ⌝ }
+{
+    if LONGEST_LINE < used {
+        return Printed::Unreadable;
     }
-    lines + 1
+    lines::answer(&line[0..used])
 }
 
-// Answers the line that is held.
-fn end_line(out: &mut [u8], line: &[u8], h: Held) -> Held
+// Answers the line that is held. No input has more lines than 64 bits can count.
+fn end_line(out: &mut [u8; 4096], line: &[u8; 4096], h: Held) -> Held
     requires { ⌜ Sound h ⌝ }
-    requires { ⌜ length (now out) ≡ 4096 ⌝ }
-    requires { ⌜ length (now line) ≡ 4096 ⌝ }
     ensures { λ r. ⌜ Sound r ⌝ }
 {
     let t = make_room(out, h);
-    let used = t.used;
-    let lines = counted(t.lines);
-    if LONGEST_LINE < used {
-        let put = answers::put_line(out, t.put, lines, Printed::Unreadable);
-        return Held {
-            used: 0,
-            put,
-            lines,
-            closed: t.closed,
-        };
+    let mut lines = t.lines;
+    if lines < u64::MAX {
+        lines += 1;
     }
-    let put = answers::put_line(out, t.put, lines, lines::answer(&line[0..used]));
+    let put = printing::put_line(out, t.put, lines, printed(line, t.used));
     Held {
         used: 0,
         put,
@@ -95,10 +93,8 @@ fn end_line(out: &mut [u8], line: &[u8], h: Held) -> Held
 }
 
 // Answers each line that ends in the block, and holds the rest.
-fn take_block(out: &mut [u8], line: &mut [u8], block: &[u8], held: Held) -> Held
+fn take_block(out: &mut [u8; 4096], line: &mut [u8; 4096], block: &[u8], held: Held) -> Held
     requires { ⌜ Sound held ⌝ }
-    requires { ⌜ length (now out) ≡ 4096 ⌝ }
-    requires { ⌜ length (now line) ≡ 4096 ⌝ }
     ensures { λ r. ⌜ Sound r ⌝ }
 {
     let mut h = held;
@@ -119,9 +115,7 @@ fn take_block(out: &mut [u8], line: &mut [u8], block: &[u8], held: Held) -> Held
 }
 
 // Reads to the end of the input, and answers every line that ends.
-fn take_input(out: &mut [u8], line: &mut [u8], block: &mut [u8]) -> Held
-    requires { ⌜ length (now out) ≡ 4096 ⌝ }
-    requires { ⌜ length (now line) ≡ 4096 ⌝ }
+fn take_input(out: &mut [u8; 4096], line: &mut [u8; 4096]) -> Held
     ensures { λ r. ⌜ Sound r ⌝ }
 {
     let mut h = Held {
@@ -130,10 +124,11 @@ fn take_input(out: &mut [u8], line: &mut [u8], block: &mut [u8]) -> Held
         lines: 0,
         closed: false,
     };
+    let mut block = io::large_buffer();
     let mut turns = u64::MAX;
     while turns > 0 {
-        let got = libc::read(0, block);
-        let n = io::count(got, block);
+        let got = libc::read(0, &mut block);
+        let n = io::count(got, &block);
         if n == 0 {
             return h;
         }
@@ -146,40 +141,30 @@ fn take_input(out: &mut [u8], line: &mut [u8], block: &mut [u8]) -> Held
     h
 }
 
-// Answers a last line that has no newline, and ends.
-fn finish(out: &mut [u8], line: &[u8], h: Held)
-    requires { ⌜ Sound h ⌝ }
-    requires { ⌜ length (now out) ≡ 4096 ⌝ }
-    requires { ⌜ length (now line) ≡ 4096 ⌝ }
-{
-    if 0 < h.used {
-        let last = end_line(out, line, h);
-        write_end(out, last);
-        return;
-    }
-    write_end(out, h);
-}
-
 // Writes the answers that are left, and the number of lines.
-fn write_end(out: &mut [u8], h: Held)
+fn write_end(out: &mut [u8; 4096], h: Held)
     requires { ⌜ Sound h ⌝ }
-    requires { ⌜ length (now out) ≡ 4096 ⌝ }
 {
     let t = make_room(out, h);
     if t.closed {
         return;
     }
-    let put = answers::put_end(out, t.put, t.lines);
-    io::write_all(1, &out[0..put]);
+    let put = printing::put_end(out, t.put, t.lines);
+    written(out, put);
 }
 
+// Answers a last line that has no newline, too.
 fn main() {
     let mut out = io::buffer();
     let mut line = io::buffer();
-    let mut block = io::large_buffer();
-    let h = take_input(&mut out, &mut line, &mut block);
+    let h = take_input(&mut out, &mut line);
     if h.closed {
         return;
     }
-    finish(&mut out, &line, h);
+    if 0 < h.used {
+        let last = end_line(&mut out, &line, h);
+        write_end(&mut out, last);
+        return;
+    }
+    write_end(&mut out, h);
 }

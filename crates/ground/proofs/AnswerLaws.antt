@@ -1,7 +1,10 @@
 -- One answer: what a promise of the shape `Answer` leaves open. Assumes nothing.
 use mathlib.Core.Path.{_≡_, refl, sym, ap, _∙_}
 use Prim.Native.Nat.{ℕ}
-use Rattle.ground.specs.Answers.{numberOf, refusalOf, Said, done, refused, Answer}
+use native.Mathlib.Omega.{arith}
+use Rattle.ground.specs.Answers.{numberOf, refusalOf, outcomeNumber, Unless, unmet, met, Said, done, refused, Answer}
+use Rattle.ground.specs.declared.refusals.Outcome.{Outcome}
+use Rattle.ground.specs.declared.refusals.Outcome.the-variants as outcome
 use Rattle.ground.specs.declared.refusals.Refusal.{Refusal}
 use Rattle.ground.specs.declared.refusals.Refusal.the-variants.{NoOctets, UnknownType, WrongLength, PolygonCount, AngleCode, ConfidenceTooLarge, OutOfRange, UncertaintyTooLarge, NoneHolds, BufferTooShort, FrameBroken}
 
@@ -29,3 +32,36 @@ refusal-back FrameBroken = refl
 -- an answer that can be found again from what it says is told by that
 pub told-by : {E S : Type 0} (said : E → S) (back : S → E) → ((r : E) → back (said r) ≡ r) → (a b : E) → said a ≡ said b → a ≡ b
 told-by said back same a b e = sym (same a) ∙ ap back e ∙ same b
+
+not-0 : (why : Refusal) → numberOf why ≡ 0 → ⊥
+not-0 NoOctets e = absurd (omega arith)
+not-0 UnknownType e = absurd (omega arith)
+not-0 WrongLength e = absurd (omega arith)
+not-0 PolygonCount e = absurd (omega arith)
+not-0 AngleCode e = absurd (omega arith)
+not-0 ConfidenceTooLarge e = absurd (omega arith)
+not-0 OutOfRange e = absurd (omega arith)
+not-0 UncertaintyTooLarge e = absurd (omega arith)
+not-0 NoneHolds e = absurd (omega arith)
+not-0 BufferTooShort e = absurd (omega arith)
+not-0 FrameBroken e = absurd (omega arith)
+
+-- an outcome is told by its number
+pub outcome-one : (a b : Outcome) → outcomeNumber a ≡ outcomeNumber b → a ≡ b
+outcome-one outcome.Done outcome.Done e = refl
+outcome-one outcome.Done (outcome.Refused why) e = absurd (not-0 why (sym e))
+outcome-one (outcome.Refused why) outcome.Done e = absurd (not-0 why e)
+outcome-one (outcome.Refused a) (outcome.Refused b) e = ap outcome.Refused (told-by numberOf refusalOf refusal-back a b e)
+
+module _ (demand : Type 0) (n : ℕ) (others : ℕ → Type 0) where
+  -- demands that are looked at in order give one number
+  pub unless-one : ((a b : ℕ) → others a → others b → a ≡ b) → (a b : ℕ) → Unless demand n others a → Unless demand n others b → a ≡ b
+  unless-one rest a b (unmet p e) (unmet q f) = e ∙ sym f
+  unless-one rest a b (unmet p e) (met q f) = absurd (p q)
+  unless-one rest a b (met p e) (unmet q f) = absurd (q p)
+  unless-one rest a b (met p e) (met q f) = rest a b e f
+
+  -- 0 is given where the demand is met
+  pub when-done : (n ≡ 0 → ⊥) → Unless demand n others 0 → demand × others 0
+  when-done z (unmet p e) = absurd (z (sym e))
+  when-done z (met p e) = (p, e)

@@ -5,6 +5,8 @@ use Prim.Native.Nat.{ℕ, _-_}
 use lib.ListN.{getD}
 use Rattle.ground.specs.declared.told.Told.{Told}
 use Rattle.ground.specs.declared.told.Told.the-variants.{Refused}
+use Rattle.ground.specs.declared.refusals.Outcome.{Outcome}
+use Rattle.ground.specs.declared.refusals.Outcome.the-variants as outcome
 use Rattle.ground.specs.declared.refusals.Refusal.{Refusal}
 use Rattle.ground.specs.declared.refusals.Refusal.the-variants.{
   NoOctets,
@@ -37,6 +39,25 @@ numberOf FrameBroken = 11
 abbrev pub refusalOf : ℕ → Refusal
 refusalOf n =
     getD (NoOctets ∷ UnknownType ∷ WrongLength ∷ PolygonCount ∷ AngleCode ∷ ConfidenceTooLarge ∷ OutOfRange ∷ UncertaintyTooLarge ∷ NoneHolds ∷ BufferTooShort ∷ FrameBroken ∷ []) (n - 1) FrameBroken
+
+-- document 01's number of an outcome
+abbrev pub outcomeNumber : Outcome → ℕ
+outcomeNumber outcome.Done = 0
+outcomeNumber (outcome.Refused why) = numberOf why
+
+-- what is handed back: the one thing when it is done, the other when it is refused
+abbrev pub handed : {A : Type 0} → Outcome → A → A → A
+handed outcome.Done a b = a
+handed (outcome.Refused why) a b = b
+
+-- The number m of an answer where demands are looked at in order: n if the first one is not met, else what the others give.
+pub data Unless (demand : Type 0) (n : ℕ) (others : ℕ → Type 0) (m : ℕ) : Type 0 where
+  unmet : (demand → ⊥) → m ≡ n → Unless demand n others m
+  met : demand → others m → Unless demand n others m
+
+-- no demand is left: 0
+abbrev pub Else0 : ℕ → Type 0
+Else0 m = m ≡ 0
 
 -- 0 and the value, or the number of a refusal and nothing else
 pub data Said (A : Type 0) : Type 0 where

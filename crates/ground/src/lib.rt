@@ -28,6 +28,7 @@ pub use quantities::Nanodegrees;
 pub use quantities::SignedMetresPerHour;
 pub use quantities::SignedMillimetres;
 pub use quantities::UncertaintySpeed;
+pub use refusals::Outcome;
 pub use refusals::Refusal;
 pub use refusals::refusal_number;
 pub use signs::Parts;

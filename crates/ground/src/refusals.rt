@@ -16,6 +16,12 @@ pub enum Refusal {
     FrameBroken,
 }
 
+// Done, document 01's 0, or refused.
+pub enum Outcome {
+    Done,
+    Refused(Refusal),
+}
+
 pub fn refusal_number(why: Refusal) -> u64
     ensures { λ r. ⌜ r ≡ numberOf why ⌝ }
 {

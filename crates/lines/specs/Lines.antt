@@ -3,8 +3,8 @@ use mathlib.Core.Path.{_≡_}
 use mathlib.Core.List.{List}
 use Prim.Native.Nat.{ℕ, _<_}
 use lib.ListN.{length, getD}
-use Rattle.lines.specs.declared.printed.Printed.{Printed}
-use Rattle.lines.specs.declared.printed.Printed.the-variants.{Unreadable}
+use Rattle.printing.specs.declared.printed.Printed.{Printed}
+use Rattle.printing.specs.declared.printed.Printed.the-variants.{Unreadable}
 
 -- a line with no space (32) in it has one field, and is unreadable
 pub record Answered (line : List ℕ) (r : Printed) : Type 0 where

@@ -1,33 +1,29 @@
 // A quantity's code. A quantity that does not fit the width in which it arrives makes its line unreadable.
-use crate::printed;
-use crate::printed::Printed;
 use coding::Coordinate;
 use coding::Markable;
 use coding::Unsigned;
 use ground::Nanodegrees;
 use ground::SignedMetresPerHour;
 use ground::SignedMillimetres;
-use text::Numeral;
+use printing::Printed;
 use text::Signed32;
 use text::Signed64;
 use text::Unsigned32;
 
 // The code for the name at that place.
 pub fn coded(place: usize, field: &[u8]) -> Printed {
-    let n = text::number_in(field);
     match place {
-        0 => coordinate(Coordinate::Latitude, n),
-        1 => coordinate(Coordinate::Longitude, n),
-        2 => unsigned(Unsigned::Uncertainty, n),
-        3 => unsigned(Unsigned::AltitudeUncertainty, n),
-        4 => altitude(n),
-        5 => unsigned(Unsigned::InnerRadius, n),
-        6 => unsigned(Unsigned::Offset, n),
-        7 => unsigned(Unsigned::Included, n),
-        8 => unsigned(Unsigned::Orientation, n),
-        9 => unsigned(Unsigned::Bearing, n),
-        10 => unsigned(Unsigned::HorizontalSpeed, n),
-        11 => vertical_speed(n),
+        0 => coordinate(Coordinate::Latitude, field),
+        1 => coordinate(Coordinate::Longitude, field),
+        2 => unsigned(Unsigned::Uncertainty, field),
+        3 => unsigned(Unsigned::AltitudeUncertainty, field),
+        4 | 11 => signed(place, field),
+        5 => unsigned(Unsigned::InnerRadius, field),
+        6 => unsigned(Unsigned::Offset, field),
+        7 => unsigned(Unsigned::Included, field),
+        8 => unsigned(Unsigned::Orientation, field),
+        9 => unsigned(Unsigned::Bearing, field),
+        10 => unsigned(Unsigned::HorizontalSpeed, field),
         12 => markable(
             Markable::UncertaintySpeed,
             Unsigned::UncertaintySpeed,
@@ -38,38 +34,35 @@ pub fn coded(place: usize, field: &[u8]) -> Printed {
     }
 }
 
-fn coordinate(field: Coordinate, n: Numeral) -> Printed {
-    let Signed64::Number(x) = text::signed_64(n) else {
+fn coordinate(which: Coordinate, field: &[u8]) -> Printed {
+    let Signed64::Number(x) = text::signed_64(text::number_in(field)) else {
         return Printed::Unreadable;
     };
-    printed::of_told(coding::coded_coordinate(field, Nanodegrees(x)))
+    printing::of_told(coding::coded_coordinate(which, Nanodegrees(x)))
 }
 
-fn unsigned(field: Unsigned, n: Numeral) -> Printed {
-    let Unsigned32::Number(x) = text::unsigned_32(n) else {
+fn unsigned(which: Unsigned, field: &[u8]) -> Printed {
+    let Unsigned32::Number(x) = text::unsigned_32(text::number_in(field)) else {
         return Printed::Unreadable;
     };
-    printed::of_told(coding::coded_unsigned(field, x))
+    printing::of_told(coding::coded_unsigned(which, x))
 }
 
 // A dash is a missing quantity.
 fn markable(missing: Markable, given: Unsigned, field: &[u8]) -> Printed {
     if check::same(field, b"-") {
-        return printed::of_told(coding::coded_missing(missing));
+        return printing::of_told(coding::coded_missing(missing));
     }
-    unsigned(given, text::number_in(field))
+    unsigned(given, field)
 }
 
-fn altitude(n: Numeral) -> Printed {
-    let Signed32::Number(x) = text::signed_32(n) else {
+// The altitude, at place 4, or the vertical speed.
+fn signed(place: usize, field: &[u8]) -> Printed {
+    let Signed32::Number(x) = text::signed_32(text::number_in(field)) else {
         return Printed::Unreadable;
     };
-    printed::of_told(coding::coded_altitude(SignedMillimetres(x)))
-}
-
-fn vertical_speed(n: Numeral) -> Printed {
-    let Signed32::Number(x) = text::signed_32(n) else {
-        return Printed::Unreadable;
-    };
-    printed::of_told(coding::coded_vertical_speed(SignedMetresPerHour(x)))
+    if place == 4 {
+        return printing::of_told(coding::coded_altitude(SignedMillimetres(x)));
+    }
+    printing::of_told(coding::coded_vertical_speed(SignedMetresPerHour(x)))
 }

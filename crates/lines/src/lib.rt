@@ -1,10 +1,9 @@
 // A line of the coder's input, `code NAME QUANTITY` or `report NAME CODE..` with one space between two fields, and its answer.
 mod code_lines;
 mod names;
-mod printed;
 mod report_lines;
 
-pub use printed::Printed;
+use printing::Printed;
 ghost use Rattle.lines.specs.Lines.{Answered};
 
 pub fn answer(line: &[u8]) -> Printed
@@ -15,25 +14,26 @@ pub fn answer(line: &[u8]) -> Printed
         return Printed::Unreadable;
     }
     let from = end + 1;
-    if check::same(&line[0..end], b"code") {
-        return named(true, &line[from..]);
-    }
-    if check::same(&line[0..end], b"report") {
-        return named(false, &line[from..]);
-    }
-    Printed::Unreadable
+    let verb = names::place_among(&line[0..end], b"code report");
+    named(verb, &line[from..])
 }
 
-// The answer for the name that the fields start with. How many come after it is left to what reads them.
-fn named(code: bool, fields: &[u8]) -> Printed {
+// The answer for the name that the fields start with; verb 0 is `code`, 1 `report`. How many fields come after the name is left
+// to what reads them.
+fn named(verb: usize, fields: &[u8]) -> Printed {
     let end = text::field_end(fields, 0);
     if end == fields.len() {
         return Printed::Unreadable;
     }
     let from = end + 1;
-    let place = names::place(&fields[0..end]);
-    if code {
-        return code_lines::coded(place, &fields[from..]);
+    let place = names::place_among(
+        &fields[0..end],
+        b"latitude longitude uncertainty altitude-uncertainty altitude inner-radius offset included orientation bearing horizontal-speed vertical-speed uncertainty-speed confidence",
+    );
+    let rest = &fields[from..];
+    match verb {
+        0 => code_lines::coded(place, rest),
+        1 => report_lines::reported(place, rest),
+        _ => Printed::Unreadable,
     }
-    report_lines::reported(place, &fields[from..])
 }

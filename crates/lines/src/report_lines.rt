@@ -1,7 +1,6 @@
 // A code's quantity. A number that is no code of the field is refused; what is no number makes its line unreadable.
-use crate::printed;
-use crate::printed::Printed;
 use ground::LongitudeCode;
+use printing::Printed;
 use reporting::Byte;
 use reporting::Signed;
 use reporting::Word;
@@ -22,30 +21,44 @@ pub fn reported(place: usize, fields: &[u8]) -> Printed {
 
 // A code of one number without a sign.
 fn unsigned(place: usize, size: Size) -> Printed {
-    let Size::Code(n) = size else {
-        return outside(size);
-    };
-    let code = least(n);
+    if let Size::Nothing = size {
+        return Printed::Unreadable;
+    }
+    if let Size::Below = size {
+        return Printed::Refused(7);
+    }
+    let code = code_of(size);
     match place {
-        2 => printed::of_told(reporting::reported_byte(Byte::Uncertainty, code)),
-        3 => printed::of_told(reporting::reported_byte(Byte::AltitudeUncertainty, code)),
-        5 => printed::of_told(reporting::reported_word(Word::InnerRadius, code)),
-        6 => printed::of_told(reporting::reported_byte(Byte::Offset, code)),
-        7 => printed::of_told(reporting::reported_byte(Byte::Included, code)),
-        8 => printed::of_told(reporting::reported_byte(Byte::Orientation, code)),
-        9 => printed::of_told(reporting::reported_word(Word::Bearing, code)),
-        10 => printed::of_told(reporting::reported_word(Word::HorizontalSpeed, code)),
-        12 => printed::of_told(reporting::reported_byte(Byte::UncertaintySpeed, code)),
-        13 => printed::of_told(reporting::reported_byte(Byte::Confidence, code)),
+        2 => byte(Byte::Uncertainty, code),
+        3 => byte(Byte::AltitudeUncertainty, code),
+        5 => word(Word::InnerRadius, code),
+        6 => byte(Byte::Offset, code),
+        7 => byte(Byte::Included, code),
+        8 => byte(Byte::Orientation, code),
+        9 => word(Word::Bearing, code),
+        10 => word(Word::HorizontalSpeed, code),
+        12 => byte(Byte::UncertaintySpeed, code),
+        13 => byte(Byte::Confidence, code),
         _ => Printed::Unreadable,
     }
 }
 
+fn byte(field: Byte, code: u32) -> Printed {
+    printing::of_told(reporting::reported_byte(field, code))
+}
+
+fn word(field: Word, code: u32) -> Printed {
+    printing::of_told(reporting::reported_word(field, code))
+}
+
 fn longitude(n: Numeral) -> Printed {
+    if let Numeral::Nothing = n {
+        return Printed::Unreadable;
+    }
     let Signed32::Number(x) = text::signed_32(n) else {
-        return outside(text::size_of(n));
+        return Printed::Refused(7);
     };
-    printed::of_told(reporting::reported_longitude(LongitudeCode(x)))
+    printing::of_told(reporting::reported_longitude(LongitudeCode(x)))
 }
 
 // A code of two numbers, the first of them 0 or 1.
@@ -60,32 +73,24 @@ fn signed(field: Signed, fields: &[u8]) -> Printed {
 }
 
 fn with_sign(field: Signed, sign: Size, size: Size) -> Printed {
-    match sign {
-        Size::Code(s) => {
-            if 1 < s {
-                return outside(size);
-            }
-            let Size::Code(n) = size else {
-                return outside(size);
-            };
-            printed::of_told(reporting::reported_signed(field, s == 1, least(n)))
-        }
-        Size::Below => outside(size),
-        Size::Nothing => Printed::Unreadable,
+    if let Size::Nothing = sign {
+        return Printed::Unreadable;
     }
-}
-
-// A number that is outside every field, or no number.
-fn outside(size: Size) -> Printed {
-    match size {
-        Size::Code(_) => Printed::Refused(7),
-        Size::Below => Printed::Refused(7),
-        Size::Nothing => Printed::Unreadable,
+    if let Size::Nothing = size {
+        return Printed::Unreadable;
     }
+    let s = code_of(sign);
+    if 1 < s {
+        return Printed::Refused(7);
+    }
+    printing::of_told(reporting::reported_signed(field, s == 1, code_of(size)))
 }
 
 // The number itself, or the largest of 32 bits, which is outside every field too.
-fn least(n: u64) -> u32 {
+fn code_of(size: Size) -> u32 {
+    let Size::Code(n) = size else {
+        return 4294967295;
+    };
     if 4294967295 < n {
         return 4294967295;
     }

@@ -1,5 +1,4 @@
--- What is held stays sound, and the buffers keep their lengths; each turn goes past a newline.
-use mathlib.Core.Path.{_≡_}
+-- What is held stays sound; each turn goes past a newline.
 use Prim.Native.Nat.{_-_, _≤_}
 use borrow.Author.Needs.{needs}
 use lib.ListN.{length}
@@ -8,7 +7,7 @@ use Rattle.coder.proofs.take_block.Statement.{statement}
 use Rattle.coder.proofs.take_block.Tie as tie
 
 abbrev Inv-loop : tie.InvT-loop
-Inv-loop out₀ line₀ block h₀ at₀ out line h at = Sound h × (at ≤ length block) × (length out ≡ length out₀) × (length line ≡ length line₀)
+Inv-loop out₀ line₀ block h₀ at₀ out line h at = Sound h × (at ≤ length block)
 
 abbrev μ-loop : tie.MeasureT-loop
 μ-loop out₀ line₀ block h₀ at₀ out line h at = length block - at
@@ -26,13 +25,7 @@ take-block-spec =
     (λ c. search needs)
     (λ c κs. search needs)
     (λ c. search needs)
-    (λ c. search needs)
-    (λ c. search needs)
     (λ c κs. search needs)
-    (λ c. search needs)
-    (λ c. search needs)
-    (λ c. search needs)
-    (λ c. search needs)
     (λ c. search needs)
     (λ c. search needs)
     (λ c. search needs)

@@ -1,4 +1,4 @@
--- What is held stays sound, and the buffers keep their lengths; the turns left fall.
+-- What is held stays sound, and the block keeps its length; the turns left fall.
 use mathlib.Core.Path.{_≡_}
 use borrow.Author.Needs.{needs}
 use lib.ListN.{length}
@@ -7,10 +7,10 @@ use Rattle.coder.proofs.take_input.Statement.{statement}
 use Rattle.coder.proofs.take_input.Tie as tie
 
 abbrev Inv-loop : tie.InvT-loop
-Inv-loop out₀ line₀ block₀ h₀ turns₀ out line block h turns = Sound h × (length out ≡ length out₀) × (length line ≡ length line₀) × (length block ≡ length block₀)
+Inv-loop out₀ line₀ h₀ block₀ turns₀ out line h block turns = Sound h × (length block ≡ length block₀)
 
 abbrev μ-loop : tie.MeasureT-loop
-μ-loop out₀ line₀ block₀ h₀ turns₀ out line block h turns = turns
+μ-loop out₀ line₀ h₀ block₀ turns₀ out line h block turns = turns
 
 pub take-input-spec : {M : Type 1} → statement M
 take-input-spec =
@@ -18,23 +18,17 @@ take-input-spec =
     (tie.spec
     Inv-loop
     μ-loop
-    (λ c. search needs)
-    (λ c κs. search needs)
     (λ c κs. search needs)
     (λ c. search needs)
     (λ c. search needs)
-    (λ c. search needs)
-    (λ c. search needs)
-    (λ c. search needs)
-    (λ c. search needs)
+    (λ c κs. search needs)
     (λ c. search needs)
     (λ c κs. search needs)
     (λ c. search needs)
     (λ c. search needs)
     (λ c. search needs)
     (λ c. search needs)
-    (λ c. search needs)
-    (λ c. search needs)
+    (λ c κs. search needs)
     (λ c. search needs)
     (λ c. search needs)
     (λ c. search needs)

@@ -1,15 +1,15 @@
 -- `lines::names::place_among` is safe and ends: each turn goes to the next name. Assumes nothing.
-use Prim.Native.Nat.{_-_, _≤_}
+use Prim.Native.Nat.{_+_, _-_, _≤_}
 use borrow.Author.Needs.{needs}
 use lib.ListN.{length}
 use Rattle.lines.proofs.names.place_among.Statement.{statement}
 use Rattle.lines.proofs.names.place_among.Tie as tie
 
 abbrev Inv-loop : tie.InvT-loop
-Inv-loop s names place₀ from₀ place from = (from ≤ length names) × (place ≤ from)
+Inv-loop s names place₀ from₀ place from = (from ≤ length names + 1) × (place ≤ from)
 
 abbrev μ-loop : tie.MeasureT-loop
-μ-loop s names place₀ from₀ place from = length names - from
+μ-loop s names place₀ from₀ place from = length names + 1 - from
 
 loop-holds : tie.Need-loop-holds Inv-loop μ-loop
 loop-holds c = search needs
@@ -32,9 +32,6 @@ same-requires c κs = search needs
 returns : tie.Need-returns Inv-loop μ-loop
 returns c = search needs
 
-returns-2 : tie.Need-returns-2 Inv-loop μ-loop
-returns-2 c = search needs
-
 add-place : tie.Need-add-place Inv-loop μ-loop
 add-place c = search needs
 
@@ -47,8 +44,8 @@ loop-less c = search needs
 loop-again : tie.Need-loop-again Inv-loop μ-loop
 loop-again c = search needs
 
-returns-3 : tie.Need-returns-3 Inv-loop μ-loop
-returns-3 c = search needs
+returns-2 : tie.Need-returns-2 Inv-loop μ-loop
+returns-2 c = search needs
 
 pub place-among-spec : {M : Type 1} → statement M
 place-among-spec =
@@ -63,9 +60,8 @@ place-among-spec =
     part-same-end
     same-requires
     returns
-    returns-2
     add-place
     add-from
     loop-less
     loop-again
-    returns-3)
+    returns-2)

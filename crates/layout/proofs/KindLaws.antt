@@ -1,0 +1,92 @@
+-- Every type's rows are tidy: one test, made once for each type; a polygon's for any count. And which widths depend on the
+-- count: those of a polygon's points alone. Assumes nothing.
+use Prim.Native.Nat.{ℕ, _+_, _*_, _≤_, _<_}
+use mathlib.Core.Path.{_≡_, refl, sym, _∙_}
+use mathlib.Core.Bool.{Bool, true, _&&_}
+use mathlib.Core.List.{List, [], _∷_}
+use native.Mathlib.Omega.{arith}
+use lib.Dec.{ltb}
+use borrow.Author.Tests.{ltb-true, ne-eqb}
+use Rattle.layout.specs.declared.shapes.Kind.{Kind}
+use Rattle.layout.specs.declared.shapes.Kind.the-variants as shape
+use Rattle.layout.specs.declared.velocities.VelocityKind.{VelocityKind}
+use Rattle.layout.specs.declared.velocities.VelocityKind.the-variants as velocity
+use Rattle.layout.specs.Layout.{Field, Row, shapeRows, velocityRows}
+use Rattle.layout.specs.Rows.{tag, widthOf}
+use Rattle.layout.proofs.TidyLaws.{Tidy, both, tidy-by-test}
+use Rattle.layout.proofs.PolygonLaws.{point-row, point-found, none-found, polygon-tidy}
+
+pub shape-tidy : (k : Kind) (n : ℕ) → Tidy (shapeRows k n)
+shape-tidy shape.Nothing n = tidy-by-test _ refl
+shape-tidy shape.Point n = tidy-by-test _ refl
+shape-tidy shape.Circle n = tidy-by-test _ refl
+shape-tidy shape.Ellipse n = tidy-by-test _ refl
+shape-tidy shape.Polygon n = polygon-tidy n
+shape-tidy shape.AltitudePoint n = tidy-by-test _ refl
+shape-tidy shape.AltitudeEllipsoid n = tidy-by-test _ refl
+shape-tidy shape.Arc n = tidy-by-test _ refl
+
+pub velocity-tidy : (k : VelocityKind) → Tidy (velocityRows k)
+velocity-tidy velocity.Nothing = tidy-by-test _ refl
+velocity-tidy velocity.Horizontal = tidy-by-test _ refl
+velocity-tidy velocity.HorizontalVertical = tidy-by-test _ refl
+velocity-tidy velocity.HorizontalUncertain = tidy-by-test _ refl
+velocity-tidy velocity.HorizontalVerticalUncertain = tidy-by-test _ refl
+
+-- ---- widths
+
+-- how many points a record's rows have, of a count that may be any
+abbrev pub pointsOf : Kind → ℕ → ℕ
+pointsOf shape.Nothing n = 0
+pointsOf shape.Point n = 0
+pointsOf shape.Circle n = 0
+pointsOf shape.Ellipse n = 0
+pointsOf shape.Polygon n = n
+pointsOf shape.AltitudePoint n = 0
+pointsOf shape.AltitudeEllipsoid n = 0
+pointsOf shape.Arc n = 0
+
+-- no row is of a polygon's point: their tags are from 22 on
+abbrev pointless : List Row → Bool
+pointless [] = true
+pointless (r ∷ rs) = ltb (tag (r .field)) 22 && pointless rs
+
+no-point : (rs : List Row) (f : Field) → pointless rs ≡ true → 22 ≤ tag f → widthOf rs f ≡ 0
+no-point [] f h l = refl
+no-point (r ∷ rs) f h l =
+    let b = both _ _ h in
+    let low : tag (r .field) < 22 = ltb-true _ _ (b .0) in
+    let apart : tag f ≡ tag (r .field) → ⊥ = λ e. absurd (omega arith) in
+    rw (ne-eqb _ _ apart) (no-point rs f (b .1) l)
+
+pub point-width : (k : Kind) (n r i : ℕ) → i < pointsOf k n → widthOf (shapeRows k n) (point-row r i .field) ≡ point-row r i .width
+point-width shape.Nothing n r i h = absurd (omega arith)
+point-width shape.Point n r i h = absurd (omega arith)
+point-width shape.Circle n r i h = absurd (omega arith)
+point-width shape.Ellipse n r i h = absurd (omega arith)
+point-width shape.Polygon n r i h = point-found n r i h .width-found
+point-width shape.AltitudePoint n r i h = absurd (omega arith)
+point-width shape.AltitudeEllipsoid n r i h = absurd (omega arith)
+point-width shape.Arc n r i h = absurd (omega arith)
+
+-- a point after the last has no bits
+pub no-point-width : (k : Kind) (n : ℕ) (f : Field) → 22 ≤ tag f → 3 * pointsOf k n + 22 ≤ tag f → widthOf (shapeRows k n) f ≡ 0
+no-point-width shape.Nothing n f l h = no-point (shapeRows shape.Nothing n) f refl l
+no-point-width shape.Point n f l h = no-point (shapeRows shape.Point n) f refl l
+no-point-width shape.Circle n f l h = no-point (shapeRows shape.Circle n) f refl l
+no-point-width shape.Ellipse n f l h = no-point (shapeRows shape.Ellipse n) f refl l
+no-point-width shape.Polygon n f l h = none-found n f (omega arith) (λ m. h)
+no-point-width shape.AltitudePoint n f l h = no-point (shapeRows shape.AltitudePoint n) f refl l
+no-point-width shape.AltitudeEllipsoid n f l h = no-point (shapeRows shape.AltitudeEllipsoid n) f refl l
+no-point-width shape.Arc n f l h = no-point (shapeRows shape.Arc n) f refl l
+
+-- what is no point's has the width that it has with no points
+pub fixed-width : (k : Kind) (n : ℕ) (f : Field) → 2 ≤ tag f → tag f < 22 → widthOf (shapeRows k n) f ≡ widthOf (shapeRows k 0) f
+fixed-width shape.Nothing n f l h = refl
+fixed-width shape.Point n f l h = refl
+fixed-width shape.Circle n f l h = refl
+fixed-width shape.Ellipse n f l h = refl
+fixed-width shape.Polygon n f l h = none-found n f l (λ m. absurd (omega arith)) ∙ sym (none-found 0 f l (λ m. absurd (omega arith)))
+fixed-width shape.AltitudePoint n f l h = refl
+fixed-width shape.AltitudeEllipsoid n f l h = refl
+fixed-width shape.Arc n f l h = refl

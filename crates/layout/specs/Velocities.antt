@@ -1,0 +1,103 @@
+-- A velocity's record against the layout table. Assumes nothing.
+use mathlib.Core.Path.{_≡_}
+use mathlib.Core.List.{List, [], _∷_}
+use Prim.Native.Nat.{ℕ}
+use lib.ListN.{getD}
+use Rattle.ground.specs.Answers.{outcomeNumber, handed}
+use Rattle.octets.specs.Bits.{bits}
+use Rattle.octets.specs.Codes.{bitOf, signOf}
+use Rattle.layout.specs.declared.Written.{Written}
+use Rattle.layout.specs.declared.velocities.VelocityKind.{VelocityKind}
+use Rattle.layout.specs.declared.velocities.VelocityKind.the-variants.{Nothing, Horizontal, HorizontalVertical, HorizontalUncertain, HorizontalVerticalUncertain}
+use Rattle.layout.specs.declared.velocities.Velocity.{Velocity}
+use Rattle.layout.specs.declared.velocities.VelocityRead.{VelocityRead}
+use Rattle.layout.specs.Layout.{
+  Field,
+  typeNumber,
+  count,
+  south,
+  latitude,
+  longitude,
+  depth,
+  altitude,
+  uncertainty,
+  semiMajor,
+  semiMinor,
+  orientation,
+  altitudeUncertainty,
+  confidence,
+  innerRadius,
+  offset,
+  included,
+  bearing,
+  horizontalSpeed,
+  down,
+  verticalSpeed,
+  speedUncertainty,
+  verticalUncertainty,
+  Row,
+  velocityRows,
+  velocityTypeOf,
+}
+use Rattle.layout.specs.Rows.{read}
+use Rattle.layout.specs.Demands.{ReadAnswer, Writes}
+
+-- the kind of a type number; none: nothing
+abbrev pub velocityKindOf : ℕ → VelocityKind
+velocityKindOf n = getD (Horizontal ∷ HorizontalVertical ∷ HorizontalUncertain ∷ HorizontalVerticalUncertain ∷ []) n Nothing
+
+-- ---- a record from the numbers of its fields, and the numbers of a record's fields
+
+abbrev pub velocityOf : VelocityKind → (Field → ℕ) → Velocity
+velocityOf k value = record {
+  kind = k;
+  bearing = record { 0 = value bearing };
+  «horizontal_speed» = record { 0 = value horizontalSpeed };
+  «vertical_speed» = record { 0 = signOf (value down); 1 = value verticalSpeed };
+  uncertainty = record { 0 = value speedUncertainty };
+  «vertical_uncertainty» = record { 0 = value verticalUncertainty } }
+
+abbrev pub blankVelocity : VelocityKind → Velocity
+blankVelocity k = velocityOf k (λ f. 0)
+
+abbrev pub velocityValueOf : Velocity → Field → ℕ
+velocityValueOf x typeNumber = velocityTypeOf (x .kind)
+velocityValueOf x bearing = x .bearing .0
+velocityValueOf x horizontalSpeed = x .«horizontal_speed» .0
+velocityValueOf x down = bitOf (x .«vertical_speed» .0)
+velocityValueOf x verticalSpeed = x .«vertical_speed» .1
+velocityValueOf x speedUncertainty = x .uncertainty .0
+velocityValueOf x verticalUncertainty = x .«vertical_uncertainty» .0
+velocityValueOf x count = 0
+velocityValueOf x (south i) = 0
+velocityValueOf x (latitude i) = 0
+velocityValueOf x (longitude i) = 0
+velocityValueOf x depth = 0
+velocityValueOf x altitude = 0
+velocityValueOf x uncertainty = 0
+velocityValueOf x semiMajor = 0
+velocityValueOf x semiMinor = 0
+velocityValueOf x orientation = 0
+velocityValueOf x altitudeUncertainty = 0
+velocityValueOf x confidence = 0
+velocityValueOf x innerRadius = 0
+velocityValueOf x offset = 0
+velocityValueOf x included = 0
+
+-- ---- the promises
+
+abbrev pub velocityKindIn : List ℕ → VelocityKind
+velocityKindIn s = velocityKindOf (bits s 0 4)
+
+abbrev pub velocityRowsIn : List ℕ → List Row
+velocityRowsIn s = velocityRows (velocityKindIn s)
+
+abbrev pub velocityIn : List ℕ → Velocity
+velocityIn s = velocityOf (velocityKindIn s) (read s (velocityRowsIn s))
+
+pub record ReadsVelocity (s : List ℕ) (r : VelocityRead) : Type 0 where
+  pub answer : ReadAnswer (velocityRowsIn s) s (outcomeNumber (r .outcome))
+  pub velocity : r .velocity ≡ handed (r .outcome) (velocityIn s) (blankVelocity Nothing)
+
+abbrev pub WritesVelocity : Velocity → List ℕ → List ℕ → Written → Type 0
+WritesVelocity x = Writes (velocityRows (x .kind)) (velocityValueOf x)

@@ -1,0 +1,23 @@
+// The records of a message, and in specs/ the layout table of document 01 ("Octet layouts") with what reading and
+// writing mean by it.
+mod demands;
+mod shapes;
+mod velocities;
+
+pub use demands::codes_outcome;
+pub use shapes::Kind;
+pub use shapes::Shape;
+pub use shapes::ShapeRead;
+pub use shapes::blank_shape;
+pub use velocities::Velocity;
+pub use velocities::VelocityKind;
+pub use velocities::VelocityRead;
+pub use velocities::blank_velocity;
+
+use ground::Outcome;
+
+// What writing a record answers: the number of octets of its message, 0 where it is refused.
+pub struct Written {
+    pub outcome: Outcome,
+    pub length: usize,
+}

@@ -1,0 +1,76 @@
+// A shape's record: its kind, and the codes of every field that any shape has. What its kind has no field for is zero.
+use ground::AltitudeCode;
+use ground::AltitudeUncertaintyCode;
+use ground::ConfidenceCode;
+use ground::IncludedCode;
+use ground::InnerRadiusCode;
+use ground::LatitudeCode;
+use ground::LongitudeCode;
+use ground::OffsetCode;
+use ground::OrientationCode;
+use ground::Outcome;
+use ground::UncertaintyCode;
+ghost use mathlib.Core.Path.{_≡_};
+ghost use Rattle.layout.specs.Shapes.{blankShape};
+
+pub enum Kind {
+    // no shape: the record of a refusal
+    Nothing,
+    Point,
+    Circle,
+    Ellipse,
+    Polygon,
+    AltitudePoint,
+    AltitudeEllipsoid,
+    Arc,
+}
+
+pub struct Shape {
+    pub kind: Kind,
+    pub latitude: LatitudeCode,
+    pub longitude: LongitudeCode,
+    pub altitude: AltitudeCode,
+    // of a circle or an arc
+    pub uncertainty: UncertaintyCode,
+    pub semi_major: UncertaintyCode,
+    pub semi_minor: UncertaintyCode,
+    pub orientation: OrientationCode,
+    pub altitude_uncertainty: AltitudeUncertaintyCode,
+    pub confidence: ConfidenceCode,
+    pub inner_radius: InnerRadiusCode,
+    pub offset: OffsetCode,
+    pub included: IncludedCode,
+    // a polygon's points
+    pub count: u8,
+    pub latitudes: [LatitudeCode; 15],
+    pub longitudes: [LongitudeCode; 15],
+}
+
+pub struct ShapeRead {
+    pub outcome: Outcome,
+    pub shape: Shape,
+}
+
+// The record of that kind in which every code is zero.
+pub fn blank_shape(kind: Kind) -> Shape
+    ensures { λ r. ⌜ r ≡ blankShape kind ⌝ }
+{
+    Shape {
+        kind,
+        latitude: LatitudeCode(false, 0),
+        longitude: LongitudeCode(0),
+        altitude: AltitudeCode(false, 0),
+        uncertainty: UncertaintyCode(0),
+        semi_major: UncertaintyCode(0),
+        semi_minor: UncertaintyCode(0),
+        orientation: OrientationCode(0),
+        altitude_uncertainty: AltitudeUncertaintyCode(0),
+        confidence: ConfidenceCode(0),
+        inner_radius: InnerRadiusCode(0),
+        offset: OffsetCode(0),
+        included: IncludedCode(0),
+        count: 0,
+        latitudes: [LatitudeCode(false, 0); 15],
+        longitudes: [LongitudeCode(0); 15],
+    }
+}

@@ -1,0 +1,66 @@
+// Reads and writes messages, a case a line. `shape HEX` and `velocity HEX` (`-`: no octets) print the line's number, the
+// answer, and on 0 the message that the record gives when it is written again. `put-shape ROOM TYPE CODES..` and
+// `put-velocity ROOM TYPE CODES..` write a record into so many octets, all AA before, and print the answer, the length and
+// the buffer. tests/messages.py works out what must be printed.
+mod shape_cases;
+mod velocity_cases;
+
+ghost use Prim.Native.Nat.{_≤_};
+ghost use lib.ListN.{length};
+
+// Prints an answer for each line, and answers how many there were.
+fn take_lines(s: &[u8]) -> usize
+    ensures { λ r. ⌜ r ≤ length (now (s .entry)) ⌝ }
+{
+    let mut lines: usize = 0;
+    let mut at = 0;
+    while at < s.len() {
+        let end = text::line_end(s, at);
+        lines += 1;
+        print_line(lines, &s[at..end]);
+        if end == s.len() {
+            return lines;
+        }
+        at = end + 1;
+    }
+    lines
+}
+
+// Prints what a line asks for.
+fn print_line(number: usize, line: &[u8]) {
+    let mut out = io::buffer();
+    let at = cases::put_count(&mut out, 0, number);
+    let last = put_answer(&mut out, at, line);
+    io::write_all(1, &out[0..last]);
+    io::write_all(1, b"\n");
+}
+
+fn put_answer(out: &mut [u8], at: usize, line: &[u8]) -> usize
+    requires { ⌜ at ≤ length (now out) ⌝ }
+    ensures { λ r. ⌜ r ≤ length (now (out .exit)) ⌝ }
+{
+    let end = text::field_end(line, 0);
+    if end == line.len() {
+        return at;
+    }
+    let from = end + 1;
+    if check::same(&line[0..end], b"shape") {
+        return shape_cases::put_read(out, at, &line[from..]);
+    }
+    if check::same(&line[0..end], b"velocity") {
+        return velocity_cases::put_read(out, at, &line[from..]);
+    }
+    if check::same(&line[0..end], b"put-shape") {
+        return shape_cases::put_written(out, at, &line[from..]);
+    }
+    velocity_cases::put_written(out, at, &line[from..])
+}
+
+fn main() {
+    let mut input = io::large_buffer();
+    let n = io::read_full(0, &mut input);
+    let lines = take_lines(&input[0..n]);
+    io::write_all(1, b"end ");
+    io::print_decimal(1, lines as u64);
+    io::write_all(1, b"\n");
+}

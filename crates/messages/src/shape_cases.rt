@@ -1,0 +1,90 @@
+// Cases of shapes.
+use ground::AltitudeCode;
+use ground::AltitudeUncertaintyCode;
+use ground::ConfidenceCode;
+use ground::IncludedCode;
+use ground::InnerRadiusCode;
+use ground::LatitudeCode;
+use ground::LongitudeCode;
+use ground::OffsetCode;
+use ground::OrientationCode;
+use ground::UncertaintyCode;
+use layout::Kind;
+use layout::Shape;
+ghost use Prim.Native.Nat.{_≤_};
+ghost use lib.ListN.{length};
+
+// The answer to octets, and the message of the record that was read.
+pub fn put_read(out: &mut [u8], at: usize, digits: &[u8]) -> usize
+    requires { ⌜ at ≤ length (now out) ⌝ }
+    ensures { λ r. ⌜ r ≤ length (now (out .exit)) ⌝ }
+{
+    let mut octets = [0; 128];
+    let n = cases::octets_in(&mut octets, digits);
+    let read = reading::read_shape(&octets[0..n]);
+    let outcome = read.outcome;
+    let next = cases::put_outcome(out, at, outcome);
+    let again = writing::write_shape(&mut octets, read.shape).length;
+    if 128 < again {
+        return next;
+    }
+    cases::put_octets(out, next, &octets[0..again])
+}
+
+// The answer to a record, the length of its message, and the buffer.
+pub fn put_written(out: &mut [u8], at: usize, codes: &[u8]) -> usize
+    requires { ⌜ at ≤ length (now out) ⌝ }
+    ensures { λ r. ⌜ r ≤ length (now (out .exit)) ⌝ }
+{
+    let values = cases::numbers_in(codes);
+    let room = cases::room(values[0]);
+    let mut buffer = [170; 128];
+    put_into(out, at, &mut buffer[0..room], shape_of(values))
+}
+
+fn put_into(out: &mut [u8], at: usize, buffer: &mut [u8], shape: Shape) -> usize
+    requires { ⌜ at ≤ length (now out) ⌝ }
+    ensures { λ r. ⌜ r ≤ length (now (out .exit)) ⌝ }
+{
+    let written = writing::write_shape(buffer, shape);
+    let outcome = written.outcome;
+    let answer = cases::put_outcome(out, at, outcome);
+    let space = cases::put_space(out, answer);
+    let next = cases::put_count(out, space, written.length);
+    cases::put_octets(out, next, buffer)
+}
+
+fn kind_of(number: u8) -> Kind {
+    match number {
+        0 => Kind::Point,
+        1 => Kind::Circle,
+        3 => Kind::Ellipse,
+        5 => Kind::Polygon,
+        8 => Kind::AltitudePoint,
+        9 => Kind::AltitudeEllipsoid,
+        10 => Kind::Arc,
+        _ => Kind::Nothing,
+    }
+}
+
+// The record of the numbers after the room: its type, its codes in the record's order, its count. Every point is zero.
+fn shape_of(values: [i32; 64]) -> Shape {
+    Shape {
+        kind: kind_of(cases::octet(values[1])),
+        latitude: LatitudeCode(values[2] == 1, cases::natural(values[3])),
+        longitude: LongitudeCode(values[4]),
+        altitude: AltitudeCode(values[5] == 1, cases::word(values[6])),
+        uncertainty: UncertaintyCode(cases::octet(values[7])),
+        semi_major: UncertaintyCode(cases::octet(values[8])),
+        semi_minor: UncertaintyCode(cases::octet(values[9])),
+        orientation: OrientationCode(cases::octet(values[10])),
+        altitude_uncertainty: AltitudeUncertaintyCode(cases::octet(values[11])),
+        confidence: ConfidenceCode(cases::octet(values[12])),
+        inner_radius: InnerRadiusCode(cases::word(values[13])),
+        offset: OffsetCode(cases::octet(values[14])),
+        included: IncludedCode(cases::octet(values[15])),
+        count: cases::octet(values[16]),
+        latitudes: [LatitudeCode(false, 0); 15],
+        longitudes: [LongitudeCode(0); 15],
+    }
+}

@@ -1,0 +1,57 @@
+// The text of a line's answer, put into a lent buffer. No answer takes more than 46 octets.
+use crate::printed::Printed;
+ghost use Prim.Native.Nat.{_+_, _≤_};
+ghost use lib.ListN.{length};
+ghost use Rattle.printing.specs.Printing.{PutsWithin, lineText, endText, printedText, signText};
+
+// Puts the line's number and its answer, and answers the place after them.
+pub fn put_line(out: &mut [u8], at: usize, number: u64, printed: Printed) -> usize
+    requires { ⌜ at + 46 ≤ length (now out) ⌝ }
+    ensures { λ r. ⌜ PutsWithin 46 (now (out .entry)) at (lineText number printed) (now (out .exit)) r ⌝ }
+{
+    let space = text::put_decimal(out, at, number);
+    let answer = text::put_byte(out, space, 32);
+    let end = put_printed(out, answer, printed);
+    text::put_byte(out, end, 10)
+}
+
+// Puts the last line, and answers the place after it.
+pub fn put_end(out: &mut [u8], at: usize, lines: u64) -> usize
+    requires { ⌜ at + 46 ≤ length (now out) ⌝ }
+    ensures { λ r. ⌜ PutsWithin 46 (now (out .entry)) at (endText lines) (now (out .exit)) r ⌝ }
+{
+    let number = text::put_bytes(out, at, b"end ");
+    let newline = text::put_decimal(out, number, lines);
+    text::put_byte(out, newline, 10)
+}
+
+// Puts the answer alone.
+fn put_printed(out: &mut [u8], at: usize, printed: Printed) -> usize
+    requires { ⌜ at + 24 ≤ length (now out) ⌝ }
+    ensures { λ r. ⌜ PutsWithin 24 (now (out .entry)) at (printedText printed) (now (out .exit)) r ⌝ }
+{
+    match printed {
+        Printed::Unreadable => text::put_byte(out, at, 45),
+        Printed::Refused(number) => text::put_decimal(out, at, number),
+        Printed::Missing => text::put_bytes(out, at, b"0 -"),
+        Printed::One(x) => {
+            let next = text::put_bytes(out, at, b"0 ");
+            text::put_number(out, next, x)
+        }
+        Printed::Two(sign, x) => {
+            let next = put_sign(out, at, sign);
+            text::put_number(out, next, x)
+        }
+    }
+}
+
+// Puts the answer 0 and the sign.
+fn put_sign(out: &mut [u8], at: usize, sign: bool) -> usize
+    requires { ⌜ at + 4 ≤ length (now out) ⌝ }
+    ensures { λ r. ⌜ PutsWithin 4 (now (out .entry)) at (signText sign) (now (out .exit)) r ⌝ }
+{
+    if sign {
+        return text::put_bytes(out, at, b"0 1 ");
+    }
+    text::put_bytes(out, at, b"0 0 ")
+}

@@ -1,0 +1,5 @@
+pub mod AnswerKinds
+pub mod TypeNumbers
+pub mod Filling
+pub mod PolygonRecord
+pub mod ReadLaws

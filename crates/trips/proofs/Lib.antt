@@ -1,0 +1,8 @@
+pub mod DemandLaws
+pub mod OneAnswer
+pub mod Trips
+pub mod WidthLaws
+pub mod ShapeRecords
+pub mod ShapeTrips
+pub mod VelocityTrips
+pub mod SpareLaws

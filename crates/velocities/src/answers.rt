@@ -1,0 +1,88 @@
+// Whether octets are a message of a kind, and whether a record is one that can be written.
+use crate::kinds;
+use crate::records;
+use ground::Outcome;
+use ground::Refusal;
+use layout::Velocity;
+use layout::VelocityKind;
+ghost use Prim.Native.Nat.{_<_};
+ghost use lib.ListN.{length};
+ghost use Rattle.ground.specs.Answers.{outcomeNumber};
+ghost use Rattle.layout.specs.Demands.{Listed};
+ghost use Rattle.velocities.specs.Reading.{KindAnswer};
+ghost use Rattle.velocities.specs.Writing.{rowsOf, VelocityAnswer, VelocityInFields, Decides, AreZero};
+
+pub fn of_message(s: &[u8], kind: VelocityKind) -> Outcome
+    requires { ⌜ 0 < length (now s) ⌝ }
+    ensures { λ r. ⌜ KindAnswer kind (now (s .entry)) (outcomeNumber r) ⌝ }
+{
+    let length = kinds::length_of(kind);
+    if length == 0 {
+        return Outcome::Refused(Refusal::UnknownType);
+    }
+    if s.len() != length {
+        return Outcome::Refused(Refusal::WrongLength);
+    }
+    if 360 <= records::bearing_at(s) {
+        return Outcome::Refused(Refusal::AngleCode);
+    }
+    Outcome::Done
+}
+
+pub fn of_record(velocity: Velocity, room: usize) -> Outcome
+    ensures { λ r. ⌜ VelocityAnswer velocity room (outcomeNumber r) ⌝ }
+{
+    let kind = velocity.kind;
+    let length = kinds::length_of(kind);
+    if length == 0 {
+        return Outcome::Refused(Refusal::UnknownType);
+    }
+    if 360 <= velocity.bearing.0 {
+        return Outcome::Refused(Refusal::AngleCode);
+    }
+    if !in_fields(velocity) {
+        return Outcome::Refused(Refusal::OutOfRange);
+    }
+    if room < length {
+        return Outcome::Refused(Refusal::BufferTooShort);
+    }
+    Outcome::Done
+}
+
+// Whether what the kind has no field for is zero. Its own fields hold every code of their types, and every bearing below 360.
+fn in_fields(velocity: Velocity) -> bool
+    requires { ⌜ Listed (rowsOf velocity) ⌝ }
+    requires { ⌜ velocity .bearing .0 < 360 ⌝ }
+    ensures { λ r. ⌜ Decides r (VelocityInFields velocity) ⌝ }
+{
+    let kind = velocity.kind;
+    let down = velocity.vertical_speed.0;
+    let vertical = velocity.vertical_speed.1;
+    let uncertainty = velocity.uncertainty.0;
+    let vertical_uncertainty = velocity.vertical_uncertainty.0;
+    match kind {
+        VelocityKind::Nothing => false,
+        VelocityKind::Horizontal => are_zero(down, vertical, uncertainty, vertical_uncertainty),
+        VelocityKind::HorizontalVertical => are_zero(false, 0, uncertainty, vertical_uncertainty),
+        VelocityKind::HorizontalUncertain => are_zero(down, vertical, 0, vertical_uncertainty),
+        VelocityKind::HorizontalVerticalUncertain => true,
+    }
+}
+
+fn are_zero(down: bool, vertical: u8, uncertainty: u8, vertical_uncertainty: u8) -> bool
+    ensures { λ r. ⌜ Decides r (AreZero down vertical uncertainty «vertical_uncertainty») ⌝ }
+{
+    if down {
+        return false;
+    }
+    if vertical != 0 {
+        return false;
+    }
+    if uncertainty != 0 {
+        return false;
+    }
+    if vertical_uncertainty != 0 {
+        return false;
+    }
+    true
+}

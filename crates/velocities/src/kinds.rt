@@ -1,0 +1,47 @@
+// The kinds' type numbers and lengths.
+use layout::VelocityKind;
+ghost use mathlib.Core.Path.{_≡_};
+ghost use Prim.Native.Nat.{_<_};
+ghost use lib.ListN.{length};
+ghost use Rattle.layout.specs.Layout.{velocityRows, velocityTypeOf};
+ghost use Rattle.layout.specs.Rows.{lengthOf};
+ghost use Rattle.layout.specs.Velocities.{velocityKindIn};
+
+// The kind of the type in bits 8 to 5 of the first octet.
+pub fn kind_at(s: &[u8]) -> VelocityKind
+    requires { ⌜ 0 < length (now s) ⌝ }
+    ensures { λ r. ⌜ r ≡ velocityKindIn (now (s .entry)) ⌝ }
+{
+    match octets::octet(s, 0) / 16 {
+        0 => VelocityKind::Horizontal,
+        1 => VelocityKind::HorizontalVertical,
+        2 => VelocityKind::HorizontalUncertain,
+        3 => VelocityKind::HorizontalVerticalUncertain,
+        _ => VelocityKind::Nothing,
+    }
+}
+
+// The length of a kind's message.
+pub fn length_of(kind: VelocityKind) -> usize
+    ensures { λ r. ⌜ r ≡ lengthOf (velocityRows kind) ⌝ }
+{
+    match kind {
+        VelocityKind::Nothing => 0,
+        VelocityKind::Horizontal => 4,
+        VelocityKind::HorizontalVertical => 5,
+        VelocityKind::HorizontalUncertain => 5,
+        VelocityKind::HorizontalVerticalUncertain => 7,
+    }
+}
+
+pub fn type_number(kind: VelocityKind) -> u16
+    ensures { λ r. ⌜ r ≡ velocityTypeOf kind ⌝ }
+{
+    match kind {
+        VelocityKind::Nothing => 0,
+        VelocityKind::Horizontal => 0,
+        VelocityKind::HorizontalVertical => 1,
+        VelocityKind::HorizontalUncertain => 2,
+        VelocityKind::HorizontalVerticalUncertain => 3,
+    }
+}

@@ -1,0 +1,63 @@
+// Octets to a velocity's record, and a record to octets: document 01, "Octet layouts" and "Refusal numbers".
+mod answers;
+mod kinds;
+mod messages;
+mod records;
+
+use ground::Outcome;
+use ground::Refusal;
+use layout::Velocity;
+use layout::VelocityKind;
+use layout::VelocityRead;
+use layout::Written;
+ghost use Rattle.layout.specs.Velocities.{ReadsVelocity, WritesVelocity};
+ghost use Rattle.velocities.specs.Reading.{RefusedWith};
+
+// The record in a message, or the refusal.
+pub fn read_velocity(s: &[u8]) -> VelocityRead
+    ensures { λ r. ⌜ ReadsVelocity (now (s .entry)) r ⌝ }
+{
+    if s.len() == 0 {
+        return refused(Refusal::NoOctets);
+    }
+    let kind = kinds::kind_at(s);
+    match answers::of_message(s, kind) {
+        Outcome::Done => VelocityRead {
+            outcome: Outcome::Done,
+            velocity: records::velocity(s, kind),
+        },
+        Outcome::Refused(why) => refused(why),
+    }
+}
+
+// A refusal hands back the record of no velocity.
+fn refused(why: Refusal) -> VelocityRead
+    ensures { λ r. ⌜ RefusedWith why r ⌝ }
+{
+    VelocityRead {
+        outcome: Outcome::Refused(why),
+        velocity: layout::blank_velocity(VelocityKind::Nothing),
+    }
+}
+
+// Writes the record's message into the first octets of the buffer, or refuses the record and leaves the buffer as it is.
+pub fn write_velocity(out: &mut [u8], velocity: Velocity) -> Written
+    ensures { λ r. ⌜ WritesVelocity velocity (now (out .entry)) (now (out .exit)) r ⌝ }
+{
+    let kind = velocity.kind;
+    let length = kinds::length_of(kind);
+    let room = out.len();
+    match answers::of_record(velocity, room) {
+        Outcome::Done => {
+            messages::put(out, velocity);
+            Written {
+                outcome: Outcome::Done,
+                length,
+            }
+        }
+        Outcome::Refused(why) => Written {
+            outcome: Outcome::Refused(why),
+            length: 0,
+        },
+    }
+}

@@ -1,0 +1,3 @@
+pub mod LimitLaws
+pub mod DemandLaws
+pub mod StoreLaws

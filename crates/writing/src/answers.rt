@@ -1,0 +1,85 @@
+// Whether a record is one that can be written.
+use crate::limits;
+use ground::Outcome;
+use ground::Refusal;
+use layout::Kind;
+use layout::Shape;
+ghost use mathlib.Core.Path.{_≡_};
+ghost use Prim.Native.Nat.{_+_, _*_};
+ghost use Rattle.ground.specs.Answers.{outcomeNumber};
+ghost use Rattle.layout.specs.Shapes.{rowsOf, valueOf};
+ghost use Rattle.layout.specs.Rows.{lengthOf};
+ghost use Rattle.layout.specs.Layout.{shapeRows};
+ghost use Rattle.writing.specs.Writing.{ShapeAnswer, CodesAnswerOf, RoomAnswerOf, CountAnswer};
+
+// The answer to a record and the room for its message.
+pub fn outcome(shape: Shape, room: usize) -> Outcome
+    ensures { λ r. ⌜ ShapeAnswer shape room (outcomeNumber r) ⌝ }
+{
+    match codes(shape) {
+        Outcome::Done => fitted(shape, room),
+        Outcome::Refused(why) => Outcome::Refused(why),
+    }
+}
+
+// 2, 4, 5 and 6.
+fn codes(shape: Shape) -> Outcome
+    ensures { λ r. ⌜ CodesAnswerOf (rowsOf shape) (valueOf shape) (outcomeNumber r) ⌝ }
+{
+    let kind = shape.kind;
+    let orientation = shape.orientation.0;
+    let confidence = shape.confidence.0;
+    match kind {
+        Kind::Nothing => Outcome::Refused(Refusal::UnknownType),
+        Kind::Point => Outcome::Done,
+        Kind::Circle => Outcome::Done,
+        Kind::Ellipse => layout::codes_outcome(orientation, orientation, confidence),
+        Kind::Polygon => count(shape.count),
+        Kind::AltitudePoint => Outcome::Done,
+        Kind::AltitudeEllipsoid => layout::codes_outcome(orientation, orientation, confidence),
+        Kind::Arc => layout::codes_outcome(shape.offset.0, shape.included.0, confidence),
+    }
+}
+
+// A polygon has 3 to 15 points.
+fn count(n: u8) -> Outcome
+    ensures { λ r. ⌜ CountAnswer n (outcomeNumber r) ⌝ }
+{
+    if n < 3 {
+        return Outcome::Refused(Refusal::PolygonCount);
+    }
+    if 15 < n {
+        return Outcome::Refused(Refusal::PolygonCount);
+    }
+    Outcome::Done
+}
+
+// 7 and 10.
+fn fitted(shape: Shape, room: usize) -> Outcome
+    ensures { λ r. ⌜ RoomAnswerOf (rowsOf shape) (valueOf shape) room (outcomeNumber r) ⌝ }
+{
+    if !limits::in_fields(shape) {
+        return Outcome::Refused(Refusal::OutOfRange);
+    }
+    let kind = shape.kind;
+    if room < length_of(kind, shape.count) {
+        return Outcome::Refused(Refusal::BufferTooShort);
+    }
+    Outcome::Done
+}
+
+// The length of a kind's message; n is a polygon's count.
+pub fn length_of(kind: Kind, n: u8) -> usize
+    ensures { λ r. ⌜ r ≡ lengthOf (shapeRows kind n) ⌝ }
+{
+    match kind {
+        Kind::Nothing => 0,
+        Kind::Point => 7,
+        Kind::Circle => 8,
+        Kind::Ellipse => 11,
+        Kind::Polygon => 1 + 6 * (n as usize),
+        Kind::AltitudePoint => 9,
+        Kind::AltitudeEllipsoid => 14,
+        Kind::Arc => 13,
+    }
+}

@@ -1,0 +1,32 @@
+// A shape's record to octets: document 01, "Octet layouts" and "Refusal numbers".
+mod answers;
+mod limits;
+mod messages;
+mod points;
+
+use ground::Outcome;
+use layout::Shape;
+use layout::Written;
+ghost use Rattle.layout.specs.Shapes.{WritesShape};
+
+// Writes the record's message into the first octets of the buffer, or refuses the record and leaves the buffer as it is.
+pub fn write_shape(out: &mut [u8], shape: Shape) -> Written
+    ensures { λ r. ⌜ WritesShape shape (now (out .entry)) (now (out .exit)) r ⌝ }
+{
+    let room = out.len();
+    let kind = shape.kind;
+    match answers::outcome(shape, room) {
+        Outcome::Done => {
+            messages::put(out, shape);
+            let length = answers::length_of(kind, shape.count);
+            Written {
+                outcome: Outcome::Done,
+                length,
+            }
+        }
+        Outcome::Refused(why) => Written {
+            outcome: Outcome::Refused(why),
+            length: 0,
+        },
+    }
+}
