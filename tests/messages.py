@@ -123,7 +123,7 @@ def write(layouts, order, kind, fields, count, points, room):
 
 
 def hexed(message):
-    return message.hex().upper() or "-"
+    return message.hex() or "-"
 
 
 def answered(line):

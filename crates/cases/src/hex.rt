@@ -1,5 +1,4 @@
 // Octets as two hexadecimal digits each.
-use crate::output;
 ghost use Prim.Native.Nat.{_≤_};
 ghost use lib.ListN.{length};
 
@@ -21,43 +20,8 @@ pub fn octets_in(out: &mut [u8], s: &[u8]) -> usize
 fn value(digit: u8) -> u8
     ensures { λ r. ⌜ r ≤ 15 ⌝ }
 {
-    if digit < 65 {
+    if digit < 87 {
         return digit % 16;
     }
-    (digit - 55) % 16
-}
-
-// A space and the octets, `-` for none.
-pub fn put_octets(out: &mut [u8], from: usize, s: &[u8]) -> usize
-    requires { ⌜ from ≤ length (now out) ⌝ }
-    ensures { λ r. ⌜ r ≤ length (now (out .exit)) ⌝ }
-{
-    let mut at = output::put_space(out, from);
-    if s.len() == 0 {
-        return put_digit(out, at, 16);
-    }
-    let mut i = 0;
-    while i < s.len() {
-        let high = put_digit(out, at, s[i] / 16);
-        at = put_digit(out, high, s[i] % 16);
-        i += 1;
-    }
-    at
-}
-
-// One digit; a dash for what is none.
-fn put_digit(out: &mut [u8], at: usize, n: u8) -> usize
-    requires { ⌜ at ≤ length (now out) ⌝ }
-    ensures { λ r. ⌜ r ≤ length (now (out .exit)) ⌝ }
-{
-    if at == out.len() {
-        return at;
-    }
-    if n < 10 {
-        return text::put_byte(out, at, 48 + n);
-    }
-    if n < 16 {
-        return text::put_byte(out, at, 55 + n);
-    }
-    text::put_byte(out, at, 45)
+    (digit - 87) % 16
 }

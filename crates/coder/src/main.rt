@@ -9,7 +9,7 @@ ghost use Rattle.coder.specs.Held.{Sound};
 // A line of more octets is unreadable.
 const LONGEST_LINE: usize = 4096;
 
-// The answers that are put before they are written take no more octets.
+// Answers are written before they take more octets.
 const ROOM: usize = 4096;
 
 // No answer takes more octets.

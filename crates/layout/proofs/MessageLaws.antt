@@ -124,7 +124,7 @@ module _ (value : Field → ℕ) where
     ellipsoid-message a b c d e f g =
         ap (λ (k : ℕ). octets 14 (after k (value semiMajor ∷ value semiMinor ∷ value orientation ∷ value altitudeUncertainty ∷ value confidence ∷ []))) (level a b)
         ∙ word-more (value depth * 32768 + value altitude) (value semiMajor ∷ value semiMinor ∷ value orientation ∷ value altitudeUncertainty ∷ value confidence ∷ []) (omega arith)
-          (omega arith, (omega arith, (e, (omega arith, (omega arith, tt)))))
+        (omega arith, (omega arith, (e, (omega arith, (omega arith, tt)))))
 
     pub arc-message : value innerRadius < 65536 → value uncertainty < 128 → value offset < 256 → value included < 256 → value confidence < 128
         → message (shapeRows Arc n) value ≡ startOctets ++ (octets 2 (value innerRadius) ++ (value uncertainty ∷ value offset ∷ value included ∷ value confidence ∷ []))

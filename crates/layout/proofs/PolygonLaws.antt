@@ -105,4 +105,5 @@ module _ (n : ℕ) where
   polygon-tidy = record {
     sorted = (omega arith, (omega arith, points-sorted 0 n));
     whole = rw (polygon-length n) (sym (points-end 0 n ∙ omega arith));
-    found = (record { first-found = refl; width-found = refl }, (record { first-found = refl; width-found = refl }, points-found 0 n (zero-add n))) }
+    found = (record { first-found = refl; width-found = refl }, (record { first-found = refl; width-found = refl }, points-found 0 n (zero-add n)));
+  }

@@ -80,7 +80,8 @@ shapeOf k value = record {
   included = record { 0 = value included };
   count = value count;
   latitudes = upto 15 (λ i. latitudeOf value (suc i));
-  longitudes = upto 15 (λ i. longitudeOf value (suc i)) }
+  longitudes = upto 15 (λ i. longitudeOf value (suc i));
+}
 
 -- the record in which every code is zero, and the record of a refusal
 abbrev pub blankShape : Kind → Shape

@@ -55,7 +55,8 @@ velocityOf k value = record {
   «horizontal_speed» = record { 0 = value horizontalSpeed };
   «vertical_speed» = record { 0 = signOf (value down); 1 = value verticalSpeed };
   uncertainty = record { 0 = value speedUncertainty };
-  «vertical_uncertainty» = record { 0 = value verticalUncertainty } }
+  «vertical_uncertainty» = record { 0 = value verticalUncertainty };
+}
 
 abbrev pub blankVelocity : VelocityKind → Velocity
 blankVelocity k = velocityOf k (λ f. 0)

@@ -5,6 +5,7 @@ mod shapes;
 mod velocities;
 
 pub use demands::codes_outcome;
+use ground::Outcome;
 pub use shapes::Kind;
 pub use shapes::Shape;
 pub use shapes::ShapeRead;
@@ -13,8 +14,6 @@ pub use velocities::Velocity;
 pub use velocities::VelocityKind;
 pub use velocities::VelocityRead;
 pub use velocities::blank_velocity;
-
-use ground::Outcome;
 
 // What writing a record answers: the number of octets of its message, 0 where it is refused.
 pub struct Written {

@@ -1,7 +1,8 @@
 // Reads and writes messages, a case a line. `shape HEX` and `velocity HEX` (`-`: no octets) print the line's number, the
 // answer, and on 0 the message that the record gives when it is written again. `put-shape ROOM TYPE CODES..` and
-// `put-velocity ROOM TYPE CODES..` write a record into so many octets, all AA before, and print the answer, the length and
+// `put-velocity ROOM TYPE CODES..` write a record into so many octets, all aa before, and print the answer, the length and
 // the buffer. tests/messages.py works out what must be printed.
+mod output;
 mod shape_cases;
 mod velocity_cases;
 
@@ -26,34 +27,33 @@ fn take_lines(s: &[u8]) -> usize
     lines
 }
 
-// Prints what a line asks for.
 fn print_line(number: usize, line: &[u8]) {
-    let mut out = io::buffer();
-    let at = cases::put_count(&mut out, 0, number);
-    let last = put_answer(&mut out, at, line);
-    io::write_all(1, &out[0..last]);
+    io::print_decimal(1, number as u64);
+    print_answer(line);
     io::write_all(1, b"\n");
 }
 
-fn put_answer(out: &mut [u8], at: usize, line: &[u8]) -> usize
-    requires { ⌜ at ≤ length (now out) ⌝ }
-    ensures { λ r. ⌜ r ≤ length (now (out .exit)) ⌝ }
-{
+// Prints what a line asks for.
+fn print_answer(line: &[u8]) {
     let end = text::field_end(line, 0);
     if end == line.len() {
-        return at;
+        return;
     }
     let from = end + 1;
+    let case = &line[from..];
     if check::same(&line[0..end], b"shape") {
-        return shape_cases::put_read(out, at, &line[from..]);
+        shape_cases::print_read(case);
+        return;
     }
     if check::same(&line[0..end], b"velocity") {
-        return velocity_cases::put_read(out, at, &line[from..]);
+        velocity_cases::print_read(case);
+        return;
     }
     if check::same(&line[0..end], b"put-shape") {
-        return shape_cases::put_written(out, at, &line[from..]);
+        shape_cases::print_written(case);
+        return;
     }
-    velocity_cases::put_written(out, at, &line[from..])
+    velocity_cases::print_written(case);
 }
 
 fn main() {

@@ -1,51 +1,39 @@
 // Cases of velocities.
+use crate::output;
 use ground::BearingCode;
 use ground::HorizontalSpeedCode;
 use ground::UncertaintySpeedCode;
 use ground::VerticalSpeedCode;
 use layout::Velocity;
 use layout::VelocityKind;
-ghost use Prim.Native.Nat.{_≤_};
-ghost use lib.ListN.{length};
 
 // The answer to octets, and the message of the record that was read.
-pub fn put_read(out: &mut [u8], at: usize, digits: &[u8]) -> usize
-    requires { ⌜ at ≤ length (now out) ⌝ }
-    ensures { λ r. ⌜ r ≤ length (now (out .exit)) ⌝ }
-{
+pub fn print_read(digits: &[u8]) {
     let mut octets = [0; 128];
     let n = cases::octets_in(&mut octets, digits);
     let read = velocities::read_velocity(&octets[0..n]);
     let outcome = read.outcome;
-    let next = cases::put_outcome(out, at, outcome);
+    output::print_outcome(outcome);
     let again = velocities::write_velocity(&mut octets, read.velocity).length;
-    if 128 < again {
-        return next;
+    if again <= 128 {
+        output::print_octets(&octets[0..again]);
     }
-    cases::put_octets(out, next, &octets[0..again])
 }
 
 // The answer to a record, the length of its message, and the buffer.
-pub fn put_written(out: &mut [u8], at: usize, codes: &[u8]) -> usize
-    requires { ⌜ at ≤ length (now out) ⌝ }
-    ensures { λ r. ⌜ r ≤ length (now (out .exit)) ⌝ }
-{
+pub fn print_written(codes: &[u8]) {
     let values = cases::numbers_in(codes);
     let room = cases::room(values[0]);
     let mut buffer = [170; 128];
-    put_into(out, at, &mut buffer[0..room], velocity_of(values))
+    print_into(&mut buffer[0..room], velocity_of(values));
 }
 
-fn put_into(out: &mut [u8], at: usize, buffer: &mut [u8], velocity: Velocity) -> usize
-    requires { ⌜ at ≤ length (now out) ⌝ }
-    ensures { λ r. ⌜ r ≤ length (now (out .exit)) ⌝ }
-{
+fn print_into(buffer: &mut [u8], velocity: Velocity) {
     let written = velocities::write_velocity(buffer, velocity);
     let outcome = written.outcome;
-    let answer = cases::put_outcome(out, at, outcome);
-    let space = cases::put_space(out, answer);
-    let next = cases::put_count(out, space, written.length);
-    cases::put_octets(out, next, buffer)
+    output::print_outcome(outcome);
+    output::print_number(written.length as u64);
+    output::print_octets(buffer);
 }
 
 fn kind_of(number: u8) -> VelocityKind {

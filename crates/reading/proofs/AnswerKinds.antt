@@ -76,7 +76,8 @@ module _ (s : List ℕ) (m : ℕ) (some : 0 < length s) where
     orientations = unused (bits s 4 4) _ (none-found (bits s 4 4) orientation (omega arith) (λ l. absurd (omega arith)));
     offsets = unused (bits s 4 4) _ (none-found (bits s 4 4) offset (omega arith) (λ l. absurd (omega arith)));
     includeds = unused (bits s 4 4) _ (none-found (bits s 4 4) included (omega arith) (λ l. absurd (omega arith)));
-    bearings = unused (bits s 4 4) _ (none-found (bits s 4 4) bearing (omega arith) (λ l. absurd (omega arith))) }
+    bearings = unused (bits s 4 4) _ (none-found (bits s 4 4) bearing (omega arith) (λ l. absurd (omega arith)));
+  }
 
   none : ConfidenceSound (rowsFor Polygon s) (read s (rowsFor Polygon s))
   none = record { confidences = unused (bits s 4 4) _ (none-found (bits s 4 4) confidence (omega arith) (λ l. absurd (omega arith))) }

@@ -79,4 +79,5 @@ module _ (s : List ℕ) where
     included = record { 0 = low included (omega arith) (omega arith) j };
     count = bits s 4 4;
     latitudes = fifteen (λ i. latitudeIn s (8 * (1 + 6 * i))) (λ i. latitudeOf value (suc i)) zeroLatitude h latitude-of no-latitude j;
-    longitudes = fifteen (λ i. longitudeIn s (8 * (4 + 6 * i))) (λ i. longitudeOf value (suc i)) zeroLongitude h longitude-of no-longitude j }
+    longitudes = fifteen (λ i. longitudeIn s (8 * (4 + 6 * i))) (λ i. longitudeOf value (suc i)) zeroLongitude h longitude-of no-longitude j;
+  }

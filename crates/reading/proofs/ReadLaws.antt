@@ -31,7 +31,8 @@ module _ (s : List ℕ) where
   pub refused-read : (why : Refusal) (r : ShapeRead) → ReadAnswer (rowsIn s) s (numberOf why) → RefusedWith why r → ReadsShape s r
   refused-read why r a h = record {
     answer = subst (λ (o : Outcome). ReadAnswer (rowsIn s) s (outcomeNumber o)) (sym (h .outcome)) a;
-    shape = h .shape ∙ sym (ap (λ (o : Outcome). handed o (shapeIn s) (blankShape Nothing)) (h .outcome)) }
+    shape = h .shape ∙ sym (ap (λ (o : Outcome). handed o (shapeIn s) (blankShape Nothing)) (h .outcome));
+  }
 
   module _ (k : Kind) (o : Outcome) (e : k ≡ kindIn s) (a : KindAnswer k s (outcomeNumber o)) where
     -- the answer for the kind that the octets have

@@ -11,7 +11,6 @@ use Rattle.layout.specs.Shapes.{kindOf, kindIn}
 pub kind-by : (s : List ℕ) (o t : ℕ) → o ≡ bits s 0 8 → o / 16 ≡ t → kindOf t ≡ kindIn s
 kind-by s o t e h = ap kindOf (sym h ∙ ap (λ (n : ℕ). n / 16) e ∙ bits-high s 0 4 4)
 
-
 -- a number that is no type's
 pub no-kind : (n : ℕ) → (n ≡ 0 → ⊥) → (n ≡ 1 → ⊥) → (n ≡ 3 → ⊥) → (n ≡ 5 → ⊥) → (n ≡ 8 → ⊥) → (n ≡ 9 → ⊥) → (n ≡ 10 → ⊥) → kindOf n ≡ Nothing
 no-kind zero a b c d e f g = absurd (a refl)

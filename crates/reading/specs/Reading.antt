@@ -76,7 +76,8 @@ pointed x n lats lons = record {
   included = x .included;
   count = n;
   latitudes = lats;
-  longitudes = lons }
+  longitudes = lons;
+}
 
 abbrev pub polygonOf : ℕ → List ℕ → Shape
 polygonOf n s = pointed (blankShape Polygon) n (latitudesOf n s) (longitudesOf n s)

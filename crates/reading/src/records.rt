@@ -1,12 +1,12 @@
 // The record in a message of a kind, whose length is the kind's.
 use crate::kinds;
 use crate::points;
+use ground::AltitudeUncertaintyCode;
 use ground::ConfidenceCode;
 use ground::IncludedCode;
 use ground::InnerRadiusCode;
 use ground::OffsetCode;
 use ground::OrientationCode;
-use ground::AltitudeUncertaintyCode;
 use ground::UncertaintyCode;
 use layout::Kind;
 use layout::Shape;

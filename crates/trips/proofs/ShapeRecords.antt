@@ -167,4 +167,5 @@ module _ (x : Shape) (fifteen : Fifteen x) (codes : (f : Field) → valueOf x f 
     included = x .included;
     count = x .count;
     latitudes = upto-list (λ i. latitudeOf (valueOf x) (suc i)) 15 (x .latitudes) zeroLatitude (fifteen .all-latitudes) (λ i h. latitude-same i) j;
-    longitudes = upto-list (λ i. longitudeOf (valueOf x) (suc i)) 15 (x .longitudes) zeroLongitude (fifteen .all-longitudes) (λ i h. longitude-same i) j }
+    longitudes = upto-list (λ i. longitudeOf (valueOf x) (suc i)) 15 (x .longitudes) zeroLongitude (fifteen .all-longitudes) (λ i h. longitude-same i) j;
+  }

@@ -148,7 +148,8 @@ shapes = record {
   rows-in = λ s h. own-rows (kindIn s) s;
   values-in = values-in;
   rows-back = rows-back;
-  record-back = λ x fifteen h. record-back x h fifteen }
+  record-back = λ x fifteen h. record-back x h fifteen;
+}
 
 as-read : (s : List ℕ) (r : ShapeRead) → ReadsShape s r → Read shapes s (r .outcome) (r .shape)
 unfolding shapes

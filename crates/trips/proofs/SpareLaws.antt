@@ -50,7 +50,7 @@ module _ (number : Row → ℕ) (s : List ℕ) where
       let d : r .first + r .width - at ≡ (r .first - at) + r .width = omega arith in
       let m : so-far * 2 ^ (r .first + r .width - at) ≡ so-far * 2 ^ (r .first - at) * 2 ^ r .width = ap (λ (k : ℕ). so-far * 2 ^ k) d ∙ ap (λ (k : ℕ). so-far * k) (pow-add 2 (r .first - at) (r .width)) ∙ sym (mul-assoc so-far (2 ^ (r .first - at)) (2 ^ r .width)) in
       let front : bits s 0 (r .first) ≡ so-far * 2 ^ (r .first - at) =
-            sym (bits-high s 0 (r .first) (r .width)) ∙ ap (λ (k : ℕ). k / 2 ^ r .width) (e ∙ ap (λ (k : ℕ). k + number r) m) ∙ high (so-far * 2 ^ (r .first - at)) (r .width) n in
+      sym (bits-high s 0 (r .first) (r .width)) ∙ ap (λ (k : ℕ). k / 2 ^ r .width) (e ∙ ap (λ (k : ℕ). k + number r) m) ∙ high (so-far * 2 ^ (r .first - at)) (r .width) n in
       let t : at + (r .first - at) ≡ r .first = omega arith in
       let z : so-far * 2 ^ (r .first - at) ≡ so-far * 2 ^ (r .first - at) + 0 = omega arith in
       ap (λ (k : ℕ). bits s k (r .first - at)) (sym (zero-add at))
@@ -64,11 +64,11 @@ module _ (number : Row → ℕ) (s : List ℕ) where
   in-gap (r ∷ rs) so-far at k o n e h l p =
       before-or-after (in-gap rs _ (r .first + r .width) k (o .1) (n .1) e) (ltb k (r .first)) refl
     where
-    before-or-after : (r .first + r .width ≤ k → k < endOf (r .first + r .width) rs → InNoRow rs k → bit s k ≡ 0) → (b : Bool) → ltb k (r .first) ≡ b → bit s k ≡ 0
-    before-or-after after true t =
-        let m : k < r .first = ltb-true k (r .first) t in
-        zero-bits s at (r .first - at) k h (gap r so-far at (o .0) (n .0) (unpacked number s rs _ (r .first + r .width) (o .1) (n .1) e .0)) (omega arith)
-    before-or-after after false t = after (p .0 (ltb-false k (r .first) t)) l (p .1)
+      before-or-after : (r .first + r .width ≤ k → k < endOf (r .first + r .width) rs → InNoRow rs k → bit s k ≡ 0) → (b : Bool) → ltb k (r .first) ≡ b → bit s k ≡ 0
+      before-or-after after true t =
+          let m : k < r .first = ltb-true k (r .first) t in
+          zero-bits s at (r .first - at) k h (gap r so-far at (o .0) (n .0) (unpacked number s rs _ (r .first + r .width) (o .1) (n .1) e .0)) (omega arith)
+      before-or-after after false t = after (p .0 (ltb-false k (r .first) t)) l (p .1)
 
   -- octets of packed numbers have zeros in their spare bits
   spare-of : (rows : List Row) (k : ℕ) → Tidy rows → All (Narrow number) rows → s ≡ octets (lengthOf rows) (packed number 0 0 rows) → Spare rows k → bit s k ≡ 0

@@ -84,7 +84,8 @@ module _ {R : Type 0} (c : Coder R) where
           counted = subst (λ (w : Field → ℕ). CountSound (c .rowsOf x) w) (sym (d ∙ e)) (h .counted);
           long = long;
           angles = subst (λ (w : Field → ℕ). AnglesSound (c .rowsOf x) w) (sym (d ∙ e)) (h .angles);
-          sure = subst (λ (w : Field → ℕ). ConfidenceSound (c .rowsOf x) w) (sym (d ∙ e)) (h .sure) })
+          sure = subst (λ (w : Field → ℕ). ConfidenceSound (c .rowsOf x) w) (sym (d ∙ e)) (h .sure);
+        })
         (c .value x) refl same
 
     -- as the record itself
@@ -108,8 +109,8 @@ module _ {R : Type 0} (c : Coder R) where
     taken before after w writes room =
         let e = read-s .handed-back in
         let answer : WriteAnswer (c .rowsOf x) (c .value x) (length before) 0 =
-              subst (λ (y : R). WriteAnswer (c .rowsOf y) (c .value y) (length before) 0) (sym e)
-              (write-done _ _ (length before) (sound-in s is-readable) (rw (length-in s is-readable) room)) in
+        subst (λ (y : R). WriteAnswer (c .rowsOf y) (c .value y) (length before) 0) (sym e)
+        (write-done _ _ (length before) (sound-in s is-readable) (rw (length-in s is-readable) room)) in
         let o : w .outcome ≡ Done = outcome-one (w .outcome) Done (write-answer-one (c .rowsOf x) (c .value x) (length before) _ 0 (writes .answer) answer) in
         let l = writes .written ∙ ap (λ (q : Outcome). handed q (lengthOf (c .rowsOf x)) 0) o ∙ ap (λ (y : R). lengthOf (c .rowsOf y)) e ∙ length-in s is-readable in
         λ i. record { outcome = o i; length = l i }
@@ -140,8 +141,8 @@ module _ {R : Type 0} (c : Coder R) where
       let l : w .length ≡ lengthOf (c .rowsOf x) = writes .written ∙ ap (λ (q : Outcome). handed q (lengthOf (c .rowsOf x)) 0) done in
       let b : after ≡ m ++ drop (lengthOf (c .rowsOf x)) before = writes .buffer ∙ ap (λ (q : Outcome). handed q (m ++ drop (lengthOf (c .rowsOf x)) before) before) done in
       let t : take (w .length) after ≡ m =
-            ap (λ (n : ℕ). take n after) l ∙ ap (λ (a : List ℕ). take (lengthOf (c .rowsOf x)) a) b
-            ∙ take-at m (drop (lengthOf (c .rowsOf x)) before) (lengthOf (c .rowsOf x)) (message-length (c .rowsOf x) (c .value x)) in
+      ap (λ (n : ℕ). take n after) l ∙ ap (λ (a : List ℕ). take (lengthOf (c .rowsOf x)) a) b
+      ∙ take-at m (drop (lengthOf (c .rowsOf x)) before) (lengthOf (c .rowsOf x)) (message-length (c .rowsOf x) (c .value x)) in
       let r : Read m o y = subst (λ (s : List ℕ). Read s o y) t read-t in
       let e : o ≡ Done = outcome-one o Done (read-answer-one (c .rowsIn m) m _ 0 (r .answer) (read-done (c .rowsIn m) m (readable-sent x (h .0)))) in
       (e, r .handed-back ∙ ap (λ (q : Outcome). handed q (c .recordIn m) (c .none)) e ∙ record-sent x (h .0) whole)

@@ -110,7 +110,8 @@ velocity-of-values x = λ j. record {
   «horizontal_speed» = x .«horizontal_speed»;
   «vertical_speed» = record { 0 = sign-back (x .«vertical_speed» .0) j; 1 = x .«vertical_speed» .1 };
   uncertainty = x .uncertainty;
-  «vertical_uncertainty» = x .«vertical_uncertainty» }
+  «vertical_uncertainty» = x .«vertical_uncertainty»;
+}
 
 values-in : (s : List ℕ) → Readable (velocityRowsIn s) s → (f : Field) → velocityValueOf (velocityIn s) f ≡ read s (velocityRowsIn s) f
 values-in s h = values-of (velocityKindIn s) (read s (velocityRowsIn s))
@@ -148,7 +149,8 @@ velocities = record {
   rows-in = λ s h. refl;
   values-in = values-in;
   rows-back = rows-back;
-  record-back = λ x whole h. record-back x h }
+  record-back = λ x whole h. record-back x h;
+}
 
 as-read : (s : List ℕ) (r : VelocityRead) → ReadsVelocity s r → Read velocities s (r .outcome) (r .velocity)
 unfolding velocities

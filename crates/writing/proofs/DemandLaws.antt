@@ -61,8 +61,8 @@ module _ (rows : List Row) (value : Field → ℕ) where
       let never : numberOf why ≡ 0 → ⊥ = λ e. let o = outcome-one (Refused why) Done e in let z : _≡_ {A = ℕ} 0 1 = cc in absurd (omega arith) in
       after (after (after (after (λ e. absurd (never e))))) h
     where
-    after : {P : Type 0} {n m : ℕ} {A B : ℕ → Type 0} → (A m → B m) → Unless P n A m → Unless P n B m
-    after others = unless-as (λ p. p) (λ p. p) others
+      after : {P : Type 0} {n m : ℕ} {A B : ℕ → Type 0} → (A m → B m) → Unless P n A m → Unless P n B m
+      after others = unless-as (λ p. p) (λ p. p) others
 
 -- what an answer of 0 says
 pub storable : (x : Shape) (room : ℕ) → WriteAnswer (rowsOf x) (valueOf x) room 0 → Storable x room

@@ -127,12 +127,12 @@ pub all-points : (latitudes : List LatitudeCode) (longitudes : List LongitudeCod
     → ((i : ℕ) → i < 15 → PointWithin (ltb i n) (getD latitudes i zeroLatitude) (getD longitudes i zeroLongitude)) → PointsWithin latitudes longitudes n
 all-points latitudes longitudes n a b h i = below (ltb i 15) refl
   where
-  below : (t : Bool) → ltb i 15 ≡ t → PointWithin (ltb i n) (getD latitudes i zeroLatitude) (getD longitudes i zeroLongitude)
-  below true e = h i (ltb-true _ _ e)
-  below false e =
-      let l : 15 ≤ i = ltb-false _ _ e in
-      rw (List·getD-eq-default latitudes zeroLatitude {n = i} (omega arith), List·getD-eq-default longitudes zeroLongitude {n = i} (omega arith))
-      (record { sign = positive (ltb i n) 1; size = positive (ltb i n) 8388607; turn = positive (ltb i n) 16777215 })
+    below : (t : Bool) → ltb i 15 ≡ t → PointWithin (ltb i n) (getD latitudes i zeroLatitude) (getD longitudes i zeroLongitude)
+    below true e = h i (ltb-true _ _ e)
+    below false e =
+        let l : 15 ≤ i = ltb-false _ _ e in
+        rw (List·getD-eq-default latitudes zeroLatitude {n = i} (omega arith), List·getD-eq-default longitudes zeroLongitude {n = i} (omega arith))
+        (record { sign = positive (ltb i n) 1; size = positive (ltb i n) 8388607; turn = positive (ltb i n) 16777215 })
 
 -- what holds of each of these fields holds at each place of the arrays
 abbrev Each : (Field → Type 0) → List Field → Type 0
@@ -156,22 +156,49 @@ module _ (x : Shape) where
 
     pub fixed-within : Within (numbersOf x) (widthsOf (x .kind))
     fixed-within =
-        at-each (valueOf x) (widthOf (shapeRows (x .kind) 0)) fixedFields
-        (fixed uncertainty (omega arith) (omega arith),
-         (fixed semiMajor (omega arith) (omega arith),
-         (fixed semiMinor (omega arith) (omega arith),
-         (fixed orientation (omega arith) (omega arith),
-         (fixed altitudeUncertainty (omega arith) (omega arith),
-         (fixed confidence (omega arith) (omega arith),
-         (fixed innerRadius (omega arith) (omega arith),
-         (fixed offset (omega arith) (omega arith),
-         (fixed included (omega arith) (omega arith),
-         (counted,
-         (fixed altitude (omega arith) (omega arith),
-         (fixed depth (omega arith) (omega arith),
-         (fixed (south 0) (omega arith) (omega arith),
-         (fixed (latitude 0) (omega arith) (omega arith),
-         (fixed (longitude 0) (omega arith) (omega arith), tt)))))))))))))))
+        at-each (valueOf x) (widthOf (shapeRows (x .kind) 0)) fixedFields (
+          fixed uncertainty (omega arith) (omega arith),
+          (
+            fixed semiMajor (omega arith) (omega arith),
+            (
+              fixed semiMinor (omega arith) (omega arith),
+              (
+                fixed orientation (omega arith) (omega arith),
+                (
+                  fixed altitudeUncertainty (omega arith) (omega arith),
+                  (
+                    fixed confidence (omega arith) (omega arith),
+                    (
+                      fixed innerRadius (omega arith) (omega arith),
+                      (
+                        fixed offset (omega arith) (omega arith),
+                        (
+                          fixed included (omega arith) (omega arith),
+                          (
+                            counted,
+                            (
+                              fixed altitude (omega arith) (omega arith),
+                              (
+                                fixed depth (omega arith) (omega arith),
+                                (
+                                  fixed (south 0) (omega arith) (omega arith),
+                                  (
+                                    fixed (latitude 0) (omega arith) (omega arith),
+                                    (fixed (longitude 0) (omega arith) (omega arith), tt),
+                                  ),
+                                ),
+                              ),
+                            ),
+                          ),
+                        ),
+                      ),
+                    ),
+                  ),
+                ),
+              ),
+            ),
+          ),
+        )
 
     point-within : (r i : ℕ) → valueOf x (point-row r i .field) < cond (ltb i (x .count)) (2 ^ point-row r i .width) 1
     point-within r i =

@@ -148,11 +148,11 @@ module _ (x : Shape) where
           subst (λ (k : Kind). message (shapeRows k (x .count)) (valueOf x) ≡ (16 * typeOf (x .kind) + x .count) ∷ positions (x .latitudes) (x .longitudes) (x .count)) (sym e)
           (polygon-message (valueOf x) (x .count) (type-small (x .kind)) (fields .each count) each-point ∙ ap (λ (l : List ℕ). (16 * typeOf (x .kind) + x .count) ∷ l) (points-same (x .count)))
         where
-        each-point : (j : ℕ) → 0 < j → j ≤ x .count → Position (valueOf x) j
-        each-point zero a b = absurd (omega arith)
-        each-point (suc i) a b =
-            let p = rw (lt-ltb i (x .count) b) at (points-within x (s .fields) i) in
-            record { sign = p .sign; size = p .size; turn = p .turn }
+          each-point : (j : ℕ) → 0 < j → j ≤ x .count → Position (valueOf x) j
+          each-point zero a b = absurd (omega arith)
+          each-point (suc i) a b =
+              let p = rw (lt-ltb i (x .count) b) at (points-within x (s .fields) i) in
+              record { sign = p .sign; size = p .size; turn = p .turn }
 
       pub count-most : x .count ≤ 15
       count-most = subst (λ (k : Kind). CountSound (shapeRows k (x .count)) (valueOf x)) e (s .counted) .most (omega arith)

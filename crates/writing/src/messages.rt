@@ -63,17 +63,38 @@ fn put_rest(out: &mut [u8], shape: Shape)
         Kind::Nothing => {}
         Kind::Point => {}
         Kind::Circle => out[7] = shape.uncertainty.0,
-        Kind::Ellipse => put_four(out, 7, shape.semi_major.0, shape.semi_minor.0, shape.orientation.0, shape.confidence.0),
+        Kind::Ellipse => put_four(
+            out,
+            7,
+            shape.semi_major.0,
+            shape.semi_minor.0,
+            shape.orientation.0,
+            shape.confidence.0,
+        ),
         Kind::Polygon => {}
         Kind::AltitudePoint => put_altitude(out, altitude),
         Kind::AltitudeEllipsoid => {
             put_altitude(out, altitude);
-            put_four(out, 9, shape.semi_major.0, shape.semi_minor.0, shape.orientation.0, shape.altitude_uncertainty.0);
+            put_four(
+                out,
+                9,
+                shape.semi_major.0,
+                shape.semi_minor.0,
+                shape.orientation.0,
+                shape.altitude_uncertainty.0,
+            );
             out[13] = shape.confidence.0;
         }
         Kind::Arc => {
             octets::put_word(out, 7, shape.inner_radius.0);
-            put_four(out, 9, shape.uncertainty.0, shape.offset.0, shape.included.0, shape.confidence.0);
+            put_four(
+                out,
+                9,
+                shape.uncertainty.0,
+                shape.offset.0,
+                shape.included.0,
+                shape.confidence.0,
+            );
         }
     }
 }

@@ -1,5 +1,6 @@
 -- Each line ends past the last one, so there are no more lines than octets.
 use Prim.Native.Nat.{_-_, _≤_}
+use mathlib.Core.Path.{_≡_}
 use borrow.Author.Needs.{needs}
 use lib.ListN.{length}
 use Rattle.messages.proofs.take_lines.Statement.{statement}

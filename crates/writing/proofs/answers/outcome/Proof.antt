@@ -18,12 +18,12 @@ enum-known-why : tie.Need-enum-known-why
 enum-known-why c = c .match .keys2
 
 returns : tie.Need-returns
-returns c = 
+returns c =
     let a = c .before .before .before .before .args in
     whole (rowsOf (a .shape)) (valueOf (a .shape)) (a .room) _ (rw (c .before .enum-told .given .1) at (c .before .before .before .codes .ensures)) (c .fitted .ensures)
 
 returns-2 : tie.Need-returns-2
-returns-2 c = 
+returns-2 c =
     let a = c .before .before .before .before .args in
     refused (rowsOf (a .shape)) (valueOf (a .shape)) (a .room) (c .before .why .given .0 .0) (rw (c .before .why .given .1) at (c .before .before .before .codes .ensures))
 

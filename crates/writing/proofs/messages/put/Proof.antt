@@ -34,7 +34,7 @@ same-length : tie.Need-same-length
 same-length c = c .before .before .put .kept .0 ∙ simp length-set
 
 returns : tie.Need-returns
-returns c = 
+returns c =
     let x = c .before .before .before .before .before .before .before .before .before .before .before .args .shape in
     let o = now (c .before .before .before .before .before .before .before .before .before .before .before .args .out) in
     c .before .before .put .ensures ∙ ap (λ (v : ℕ). sets o 0 ((v + x .count) ∷ positions (x .latitudes) (x .longitudes) (x .count))) (c .before .before .before .before .before .before .before .before .before .first-octet .ensures)
@@ -53,7 +53,7 @@ same-length-2 : tie.Need-same-length-2
 same-length-2 c = c .before .before .put-rest .kept .0 ∙ c .before .before .before .before .before .before .put-position .kept .0 ∙ simp length-set
 
 returns-2 : tie.Need-returns-2
-returns-2 c = 
+returns-2 c =
     let x = c .before .before .before .before .before .before .before .before .before .before .before .before .before .args .shape in
     let o = now (c .before .before .before .before .before .before .before .before .before .before .before .before .before .args .out) in
     c .before .before .put-rest .ensures ∙ ap (λ (l : List ℕ). sets l 7 (restOf x)) (c .before .before .before .before .before .before .put-position .ensures)

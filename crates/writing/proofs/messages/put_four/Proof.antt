@@ -33,7 +33,7 @@ same-length : tie.Need-same-length
 same-length c = search needs
 
 returns : tie.Need-returns
-returns c = 
+returns c =
     let at = c .args .at in
     let e : at + 2 ≡ suc (suc at) = omega arith in
     let f : at + 3 ≡ suc (suc (suc at)) = omega arith in

@@ -89,7 +89,7 @@ same-length-4 : tie.Need-same-length-4
 same-length-4 c = simp length-set (c .before .before .put-four2 .kept .0 ∙ c .before .before .before .before .before .before .put-altitude2 .kept .0)
 
 returns-7 : tie.Need-returns-7
-returns-7 c = 
+returns-7 c =
     let x = c .before .before .before .before .before .before .before .before .before .before .before .before .args .shape in
     rw (c .before .before .before .before .before .before .before .before .enum-told7 .given .1)
     (ap (λ (o : List ℕ). set o 13 (x .confidence .0))
@@ -99,7 +99,7 @@ same-length-5 : tie.Need-same-length-5
 same-length-5 c = c .before .before .put-four3 .kept .0 ∙ c .before .before .before .before .before .before .put-word .kept .0
 
 returns-8 : tie.Need-returns-8
-returns-8 c = 
+returns-8 c =
     let x = c .before .before .before .before .before .before .before .before .before .before .before .before .args .shape in
     rw (c .before .before .before .before .before .before .before .before .enum-told8 .given .1)
     (c .before .before .put-four3 .ensures ∙ ap (λ (o : List ℕ). sets o 9 (x .uncertainty .0 ∷ x .offset .0 ∷ x .included .0 ∷ x .confidence .0 ∷ [])) (c .before .before .before .before .before .before .put-word .ensures))

@@ -42,7 +42,7 @@ add-put-position : tie.Need-add-put-position Inv-loop μ-loop
 add-put-position c = search needs
 
 put-position-requires : tie.Need-put-position-requires Inv-loop μ-loop
-put-position-requires c κs = (search needs, rw (lt-ltb (c .before .before .before .before .loop .i) (c .before .before .before .before .before .before .args .n) (omega arith)) at (c .before .before .before .before .before .before  .pre .1 .1 (c .before .before .before .before .loop .i) .size))
+put-position-requires c κs = (search needs, rw (lt-ltb (c .before .before .before .before .loop .i) (c .before .before .before .before .before .before .args .n) (omega arith)) at (c .before .before .before .before .before .before .pre .1 .1 (c .before .before .before .before .loop .i) .size))
 
 add-i : tie.Need-add-i Inv-loop μ-loop
 add-i c = search needs
@@ -61,7 +61,7 @@ same-length : tie.Need-same-length Inv-loop μ-loop
 same-length c = c .before .loop .inv .2
 
 returns : tie.Need-returns Inv-loop μ-loop
-returns c = 
+returns c =
     let e : c .before .loop .i ≡ c .before .before .before .args .n = omega arith in
     rw e at (c .before .loop .inv .1)
 

@@ -25,7 +25,7 @@ same-length : tie.Need-same-length
 same-length c = c .before .before .put-three .kept .0 ∙ c .before .before .before .before .before .before .before .put-latitude .kept .0
 
 returns : tie.Need-returns
-returns c = 
+returns c =
     let at = c .before .before .before .before .before .before .before .before .before .before .args .at in
     let e : at + 3 ≡ suc (suc (suc at)) = omega arith in
     rw (e, c .before .before .before .before .complement-of .ensures) at (c .before .before .put-three .ensures ∙ ap (λ (o : List ℕ). sets o (at + 3) (octets 3 (c .before .before .before .before .complement-of .result))) (c .before .before .before .before .before .before .before .put-latitude .ensures))
