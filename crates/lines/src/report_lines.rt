@@ -21,6 +21,9 @@ pub fn reported(place: usize, fields: &[u8]) -> Printed {
 
 // A code of one number without a sign.
 fn unsigned(place: usize, size: Size) -> Printed {
+    if 13 < place {
+        return Printed::Unreadable;
+    }
     if let Size::Nothing = size {
         return Printed::Unreadable;
     }
