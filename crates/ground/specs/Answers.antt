@@ -1,5 +1,6 @@
 -- What an answer says: document 01's number, and on 0 the values. Assumes nothing.
 use mathlib.Core.Path.{_≡_}
+use mathlib.Core.Bool.{Bool, true, false}
 use mathlib.Core.List.{[], _∷_}
 use Prim.Native.Nat.{ℕ, _-_}
 use lib.ListN.{getD}
@@ -77,3 +78,8 @@ Always right = Answer right 0 ⊥
 abbrev pub tells : {A : Type 0} → (A → Told) → Said A → Told
 tells numbers (done a) = numbers a
 tells numbers (refused n) = Refused (refusalOf n)
+
+-- the promise of a test: true where P holds, false where it doesn't
+abbrev pub Decides : Bool → Type 0 → Type 0
+Decides true P = P
+Decides false P = P → ⊥

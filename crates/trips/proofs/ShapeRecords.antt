@@ -55,7 +55,7 @@ bit-back (suc zero) h = refl
 bit-back (suc (suc n)) h = absurd (omega arith)
 
 module _ {A : Type 0} (f : ℕ → A) where
-  length-upto : (n : ℕ) → length (upto n f) ≡ n
+  pub length-upto : (n : ℕ) → length (upto n f) ≡ n
   length-upto zero = refl
   length-upto (suc n) = length-append (upto n f) (f n ∷ []) ∙ omega (arith, length-upto n)
 

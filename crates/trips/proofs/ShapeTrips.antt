@@ -4,6 +4,7 @@ use mathlib.Core.Path.{_≡_, refl, ap, sym, subst, _∙_}
 use mathlib.Core.List.{List, _++_}
 use native.Mathlib.Omega.{arith}
 use lib.ListN.{length, take, drop}
+use Rattle.ground.specs.Answers.{handed}
 use Rattle.ground.specs.declared.refusals.Outcome.{Outcome}
 use Rattle.ground.specs.declared.refusals.Outcome.the-variants.{Done}
 use Rattle.octets.specs.Bits.{bits}
@@ -14,15 +15,15 @@ use Rattle.layout.specs.declared.shapes.Kind.the-variants.{Nothing, Point, Circ
 use Rattle.layout.specs.declared.shapes.Shape.{Shape}
 use Rattle.layout.specs.declared.shapes.ShapeRead.{ShapeRead}
 use Rattle.layout.specs.Layout.{Field, Row, typeNumber, count, south, latitude, longitude, shapeRows, typeOf}
-use Rattle.layout.specs.Rows.{tag, read, message, spareZero}
-use Rattle.layout.specs.Demands.{Listed}
-use Rattle.layout.specs.Shapes.{kindOf, kindIn, rowsIn, shapeIn, shapeOf, blankShape, valueOf, rowsOf, ReadsShape, WritesShape}
+use Rattle.layout.specs.Rows.{tag, read, lengthOf, message, spareZero}
+use Rattle.layout.specs.Demands.{Listed, WriteAnswer}
+use Rattle.layout.specs.Shapes.{kindOf, kindIn, rowsIn, shapeIn, latitudeOf, longitudeOf, shapeOf, blankShape, valueOf, rowsOf, ReadsShape, WritesShape}
 use Rattle.layout.proofs.TidyLaws.{read-bits, read-in-fields, read-message}
 use Rattle.layout.proofs.KindLaws.{pointsOf, no-point-width, shape-tidy}
 use Rattle.trips.proofs.DemandLaws.{Readable, Sound}
 use Rattle.trips.proofs.WidthLaws.{code-of}
-use Rattle.trips.proofs.ShapeRecords.{Fifteen, values-of, shape-of-values}
-use Rattle.trips.proofs.Trips.{Coder, Read, taken, again, same-but-spare, back}
+use Rattle.trips.proofs.ShapeRecords.{Fifteen, length-upto, values-of, shape-of-values}
+use Rattle.trips.proofs.Trips.{Coder, Read, taken, accepted, again, same-but-spare, back}
 
 -- ---- the type and the count
 
@@ -169,6 +170,20 @@ module _ (s : List ℕ) (r : ShapeRead) (h : ReadsShape s r) (done : r .outcome 
     pub shape-again : after ≡ spareZero (rowsIn s) s ++ drop (length s) before
     unfolding shapes
     shape-again = again shapes s (r .shape) (done-read s r h done) before after w writes room
+
+  pub shape-accepted : WriteAnswer (rowsOf (r .shape)) (valueOf (r .shape)) (lengthOf (rowsOf (r .shape))) 0
+  unfolding shapes
+  shape-accepted = accepted shapes s (r .shape) (done-read s r h done)
+
+  -- its arrays have their fifteen elements
+  pub shape-whole : Fifteen (r .shape)
+  shape-whole =
+      let e : r .shape ≡ shapeIn s = h .shape ∙ ap (λ (o : Outcome). handed o (shapeIn s) (blankShape Nothing)) done in
+      let v = read s (rowsIn s) in
+      record {
+        all-latitudes = ap (λ (x : Shape). length (x .latitudes)) e ∙ length-upto (λ i. latitudeOf v (suc i)) 15;
+        all-longitudes = ap (λ (x : Shape). length (x .longitudes)) e ∙ length-upto (λ i. longitudeOf v (suc i)) 15;
+      }
 
   -- two messages with the same record are the same but for spare bits
   pub shape-same-but-spare : (t : List ℕ) (q : ShapeRead) → ReadsShape t q → q .outcome ≡ Done → q .shape ≡ r .shape → spareZero (rowsIn s) s ≡ spareZero (rowsIn t) t

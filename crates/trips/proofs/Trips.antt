@@ -115,6 +115,11 @@ module _ {R : Type 0} (c : Coder R) where
         let l = writes .written ∙ ap (λ (q : Outcome). handed q (lengthOf (c .rowsOf x)) 0) o ∙ ap (λ (y : R). lengthOf (c .rowsOf y)) e ∙ length-in s is-readable in
         λ i. record { outcome = o i; length = l i }
 
+    pub accepted : WriteAnswer (c .rowsOf x) (c .value x) (lengthOf (c .rowsOf x)) 0
+    accepted =
+        subst (λ (y : R). WriteAnswer (c .rowsOf y) (c .value y) (lengthOf (c .rowsOf y)) 0) (sym (read-s .handed-back))
+        (write-done _ _ _ (sound-in s is-readable) (omega arith))
+
     -- written again, a message gives its own octets with the spare bits zero, and the rest of the buffer as it was
     pub again : (before after : List ℕ) (w : Written) → Writes (c .rowsOf x) (c .value x) before after w → length s ≤ length before → after ≡ spareZero (c .rowsIn s) s ++ drop (length s) before
     again before after w writes room =

@@ -40,15 +40,15 @@ use Rattle.layout.specs.Layout.{
   velocityRows,
   velocityTypeOf,
 }
-use Rattle.layout.specs.Rows.{read, message, spareZero}
-use Rattle.layout.specs.Demands.{Listed}
+use Rattle.layout.specs.Rows.{read, lengthOf, message, spareZero}
+use Rattle.layout.specs.Demands.{Listed, WriteAnswer}
 use Rattle.layout.specs.Velocities.{velocityKindOf, velocityKindIn, velocityRowsIn, velocityIn, velocityOf, blankVelocity, velocityValueOf, ReadsVelocity, WritesVelocity}
 use Rattle.layout.proofs.TidyLaws.{read-in-fields, read-message}
 use Rattle.layout.proofs.KindLaws.{velocity-tidy}
 use Rattle.trips.proofs.DemandLaws.{Readable, Sound}
 use Rattle.trips.proofs.WidthLaws.{velocityWidest, velocity-code-of}
 use Rattle.trips.proofs.ShapeRecords.{sign-back, bit-back}
-use Rattle.trips.proofs.Trips.{Coder, Read, taken, again, same-but-spare, back}
+use Rattle.trips.proofs.Trips.{Coder, Read, taken, accepted, again, same-but-spare, back}
 
 -- ---- the type
 
@@ -170,6 +170,10 @@ module _ (s : List ℕ) (r : VelocityRead) (h : ReadsVelocity s r) (done : r .ou
     pub velocity-again : after ≡ spareZero (velocityRowsIn s) s ++ drop (length s) before
     unfolding velocities
     velocity-again = again velocities s (r .velocity) (done-read s r h done) before after w writes room
+
+  pub velocity-accepted : WriteAnswer (velocityRows (r .velocity .kind)) (velocityValueOf (r .velocity)) (lengthOf (velocityRows (r .velocity .kind))) 0
+  unfolding velocities
+  velocity-accepted = accepted velocities s (r .velocity) (done-read s r h done)
 
   -- two messages with the same record are the same but for spare bits
   pub velocity-same-but-spare : (t : List ℕ) (q : VelocityRead) → ReadsVelocity t q → q .outcome ≡ Done → q .velocity ≡ r .velocity → spareZero (velocityRowsIn s) s ≡ spareZero (velocityRowsIn t) t

@@ -144,3 +144,9 @@ code-of k n = below shapeWidest (shapeRows k n) (shape-within k n)
 
 pub velocity-code-of : (k : VelocityKind) (value : Field → ℕ) → InFields (velocityRows k) value → (f : Field) → value f < 2 ^ velocityWidest f
 velocity-code-of k = below velocityWidest (velocityRows k) (velocity-within k)
+
+pub shape-width : (k : Kind) (n : ℕ) (f : Field) → widthOf (shapeRows k n) f ≤ shapeWidest f
+shape-width k n = width-within shapeWidest (shapeRows k n) (shape-within k n)
+
+pub velocity-width : (k : VelocityKind) (f : Field) → widthOf (velocityRows k) f ≤ velocityWidest f
+velocity-width k = width-within velocityWidest (velocityRows k) (velocity-within k)

@@ -10,8 +10,11 @@ use layout::Velocity;
 use layout::VelocityKind;
 use layout::VelocityRead;
 use layout::Written;
+ghost use Rattle.ground.specs.Answers.{outcomeNumber};
+ghost use Rattle.layout.specs.Rows.{lengthOf};
 ghost use Rattle.layout.specs.Velocities.{ReadsVelocity, WritesVelocity};
 ghost use Rattle.velocities.specs.Reading.{RefusedWith};
+ghost use Rattle.velocities.specs.Writing.{rowsOf, VelocityAnswer};
 
 // The record in a message, or the refusal.
 pub fn read_velocity(s: &[u8]) -> VelocityRead
@@ -60,4 +63,13 @@ pub fn write_velocity(out: &mut [u8], velocity: Velocity) -> Written
             length: 0,
         },
     }
+}
+
+// What writing the record answers, given room for its message.
+pub fn velocity_outcome(velocity: Velocity) -> Outcome
+    ensures { λ r. ⌜ VelocityAnswer velocity (lengthOf (rowsOf velocity)) (outcomeNumber r) ⌝ }
+{
+    let kind = velocity.kind;
+    let room = kinds::length_of(kind);
+    answers::of_record(velocity, room)
 }

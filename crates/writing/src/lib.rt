@@ -7,7 +7,10 @@ mod points;
 use ground::Outcome;
 use layout::Shape;
 use layout::Written;
-ghost use Rattle.layout.specs.Shapes.{WritesShape};
+ghost use Rattle.ground.specs.Answers.{outcomeNumber};
+ghost use Rattle.layout.specs.Rows.{lengthOf};
+ghost use Rattle.layout.specs.Shapes.{rowsOf, WritesShape};
+ghost use Rattle.writing.specs.Writing.{ShapeAnswer};
 
 // Writes the record's message into the first octets of the buffer, or refuses the record and leaves the buffer as it is.
 pub fn write_shape(out: &mut [u8], shape: Shape) -> Written
@@ -29,4 +32,13 @@ pub fn write_shape(out: &mut [u8], shape: Shape) -> Written
             length: 0,
         },
     }
+}
+
+// What writing the record answers, given room for its message.
+pub fn shape_outcome(shape: Shape) -> Outcome
+    ensures { λ r. ⌜ ShapeAnswer shape (lengthOf (rowsOf shape)) (outcomeNumber r) ⌝ }
+{
+    let kind = shape.kind;
+    let room = answers::length_of(kind, shape.count);
+    answers::outcome(shape, room)
 }

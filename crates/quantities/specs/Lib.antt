@@ -1,0 +1,4 @@
+pub mod Places
+pub mod Promises
+pub mod Shapes
+pub mod Velocities

@@ -1,0 +1,143 @@
+-- A shape's record reported, and its quantities coded. Assumes nothing.
+use mathlib.Core.Path.{_≡_}
+use mathlib.Core.List.{List}
+use Prim.Native.Nat.{ℕ, zero, suc}
+use lib.IntN.{pos}
+use lib.ListN.{length, getD, replicate}
+use Rattle.ground.specs.Answers.{outcomeNumber}
+use Rattle.ground.specs.declared.quantities.Nanodegrees.{Nanodegrees}
+use Rattle.ground.specs.declared.quantities.Confidence.the-variants.{Missing}
+use Rattle.fields.specs.Fields as field
+use Rattle.layout.specs.declared.shapes.Kind.the-variants.{Nothing}
+use Rattle.layout.specs.declared.shapes.Shape.{Shape}
+use Rattle.layout.specs.Layout.{Row, shapeRows}
+use Rattle.layout.specs.Rows.{lengthOf}
+use Rattle.layout.specs.Demands.{WriteAnswer}
+use Rattle.layout.specs.Shapes.{rowsOf, valueOf, zeroLatitude, zeroLongitude, blankShape}
+use Rattle.quantities.specs.declared.shapes.ShapeQuantities.{ShapeQuantities}
+use Rattle.quantities.specs.declared.shapes.ShapeReported.{ShapeReported}
+use Rattle.quantities.specs.declared.shapes.ShapeCoded.{ShapeCoded}
+use Rattle.quantities.specs.Places.{
+  Place,
+  latitude,
+  longitude,
+  altitude,
+  uncertainty,
+  semiMajor,
+  semiMinor,
+  orientation,
+  altitudeUncertainty,
+  confidence,
+  innerRadius,
+  offset,
+  included,
+  bearing,
+  horizontalSpeed,
+  verticalSpeed,
+  speedUncertainty,
+  verticalUncertainty,
+  Codes,
+  Quantities,
+  zeroCode,
+  zeroQuantity,
+}
+use Rattle.quantities.specs.Promises.{EachReported, EachCoded, CodeAnswer, Given}
+
+-- ---- the codes and the quantities at a shape's places; a velocity's are zero
+
+abbrev pub codeAt : Shape → Codes
+codeAt x (latitude zero) = x .latitude
+codeAt x (latitude (suc i)) = getD (x .latitudes) i zeroLatitude
+codeAt x (longitude zero) = x .longitude
+codeAt x (longitude (suc i)) = getD (x .longitudes) i zeroLongitude
+codeAt x altitude = x .altitude
+codeAt x uncertainty = x .uncertainty
+codeAt x semiMajor = x .«semi_major»
+codeAt x semiMinor = x .«semi_minor»
+codeAt x orientation = x .orientation
+codeAt x altitudeUncertainty = x .«altitude_uncertainty»
+codeAt x confidence = x .confidence
+codeAt x innerRadius = x .«inner_radius»
+codeAt x offset = x .offset
+codeAt x included = x .included
+codeAt x bearing = zeroCode field.bearing
+codeAt x horizontalSpeed = zeroCode field.horizontalSpeed
+codeAt x verticalSpeed = zeroCode field.verticalSpeed
+codeAt x speedUncertainty = zeroCode field.uncertaintySpeed
+codeAt x verticalUncertainty = zeroCode field.uncertaintySpeed
+
+abbrev pub zeroDegrees : Nanodegrees
+zeroDegrees = record { 0 = pos 0 }
+
+abbrev pub quantityAt : ShapeQuantities → Quantities
+quantityAt q (latitude zero) = q .latitude
+quantityAt q (latitude (suc i)) = getD (q .latitudes) i zeroDegrees
+quantityAt q (longitude zero) = q .longitude
+quantityAt q (longitude (suc i)) = getD (q .longitudes) i zeroDegrees
+quantityAt q altitude = q .altitude
+quantityAt q uncertainty = q .uncertainty
+quantityAt q semiMajor = q .«semi_major»
+quantityAt q semiMinor = q .«semi_minor»
+quantityAt q orientation = q .orientation
+quantityAt q altitudeUncertainty = q .«altitude_uncertainty»
+quantityAt q confidence = q .confidence
+quantityAt q innerRadius = q .«inner_radius»
+quantityAt q offset = q .offset
+quantityAt q included = q .included
+quantityAt q bearing = zeroQuantity field.bearing
+quantityAt q horizontalSpeed = zeroQuantity field.horizontalSpeed
+quantityAt q verticalSpeed = zeroQuantity field.verticalSpeed
+quantityAt q speedUncertainty = zeroQuantity field.uncertaintySpeed
+quantityAt q verticalUncertainty = zeroQuantity field.uncertaintySpeed
+
+-- the quantities of a refusal: of no kind, and all zero
+abbrev pub noShape : ShapeQuantities
+noShape = record {
+  kind = Nothing;
+  latitude = zeroDegrees;
+  longitude = zeroDegrees;
+  altitude = zeroQuantity field.altitude;
+  uncertainty = zeroQuantity field.uncertainty;
+  «semi_major» = zeroQuantity field.uncertainty;
+  «semi_minor» = zeroQuantity field.uncertainty;
+  orientation = zeroQuantity field.orientation;
+  «altitude_uncertainty» = zeroQuantity field.altitudeUncertainty;
+  confidence = zeroQuantity field.confidence;
+  «inner_radius» = zeroQuantity field.innerRadius;
+  offset = zeroQuantity field.offset;
+  included = zeroQuantity field.included;
+  count = 0;
+  latitudes = replicate 15 zeroDegrees;
+  longitudes = replicate 15 zeroDegrees;
+}
+
+-- ---- the promises
+
+-- the record's own quantities
+pub record QuantitiesOf (x : Shape) (q : ShapeQuantities) : Type 0 where
+  pub kinds : q .kind ≡ x .kind
+  pub counts : q .count ≡ x .count
+  pub all-latitudes : length (q .latitudes) ≡ 15
+  pub all-longitudes : length (q .longitudes) ≡ 15
+  pub each : EachReported (rowsOf x) (codeAt x) (quantityAt q)
+
+-- a record that the writer would refuse, room given, is refused with the same number
+pub record ReportsShape (x : Shape) (r : ShapeReported) : Type 0 where
+  pub answer : WriteAnswer (rowsOf x) (valueOf x) (lengthOf (rowsOf x)) (outcomeNumber (r .outcome))
+  pub quantities : Given (r .outcome) (QuantitiesOf x (r .quantities)) (r .quantities ≡ noShape)
+
+-- the rows of the quantities' own type
+abbrev pub quantityRows : ShapeQuantities → List Row
+quantityRows q = shapeRows (q .kind) (q .count)
+
+-- the record of the quantities
+pub record RecordOf (q : ShapeQuantities) (x : Shape) : Type 0 where
+  pub kinds : x .kind ≡ q .kind
+  pub counts : x .count ≡ q .count
+  pub all-latitudes : length (x .latitudes) ≡ 15
+  pub all-longitudes : length (x .longitudes) ≡ 15
+  pub each : EachCoded (quantityRows q) (quantityAt q) (codeAt x)
+
+pub record CodesShape (q : ShapeQuantities) (r : ShapeCoded) : Type 0 where
+  pub answer : CodeAnswer (quantityRows q) (q .count) (quantityAt q) (outcomeNumber (r .outcome))
+  pub shape : Given (r .outcome) (RecordOf q (r .shape)) (r .shape ≡ blankShape Nothing)

@@ -1,0 +1,113 @@
+-- A velocity's record reported, and its quantities coded. Assumes nothing.
+use mathlib.Core.Path.{_≡_}
+use mathlib.Core.List.{List}
+use Prim.Native.Nat.{ℕ}
+use Rattle.ground.specs.Answers.{outcomeNumber}
+use Rattle.fields.specs.Fields as field
+use Rattle.layout.specs.declared.velocities.VelocityKind.the-variants.{Nothing}
+use Rattle.layout.specs.declared.velocities.Velocity.{Velocity}
+use Rattle.layout.specs.Layout.{Row, velocityRows}
+use Rattle.layout.specs.Rows.{lengthOf}
+use Rattle.layout.specs.Demands.{WriteAnswer}
+use Rattle.layout.specs.Velocities.{velocityValueOf, blankVelocity}
+use Rattle.quantities.specs.declared.velocities.VelocityQuantities.{VelocityQuantities}
+use Rattle.quantities.specs.declared.velocities.VelocityReported.{VelocityReported}
+use Rattle.quantities.specs.declared.velocities.VelocityCoded.{VelocityCoded}
+use Rattle.quantities.specs.Places.{
+  Place,
+  latitude,
+  longitude,
+  altitude,
+  uncertainty,
+  semiMajor,
+  semiMinor,
+  orientation,
+  altitudeUncertainty,
+  confidence,
+  innerRadius,
+  offset,
+  included,
+  bearing,
+  horizontalSpeed,
+  verticalSpeed,
+  speedUncertainty,
+  verticalUncertainty,
+  fieldOf,
+  Codes,
+  Quantities,
+  zeroCode,
+  zeroQuantity,
+}
+use Rattle.quantities.specs.Promises.{EachReported, EachCoded, CodeAnswer, Given}
+
+-- ---- the codes and the quantities at a velocity's places; a shape's are zero
+
+abbrev pub velocityCodeAt : Velocity → Codes
+velocityCodeAt x bearing = x .bearing
+velocityCodeAt x horizontalSpeed = x .«horizontal_speed»
+velocityCodeAt x verticalSpeed = x .«vertical_speed»
+velocityCodeAt x speedUncertainty = x .uncertainty
+velocityCodeAt x verticalUncertainty = x .«vertical_uncertainty»
+velocityCodeAt x (latitude i) = zeroCode field.latitude
+velocityCodeAt x (longitude i) = zeroCode field.longitude
+velocityCodeAt x altitude = zeroCode field.altitude
+velocityCodeAt x uncertainty = zeroCode field.uncertainty
+velocityCodeAt x semiMajor = zeroCode field.uncertainty
+velocityCodeAt x semiMinor = zeroCode field.uncertainty
+velocityCodeAt x orientation = zeroCode field.orientation
+velocityCodeAt x altitudeUncertainty = zeroCode field.altitudeUncertainty
+velocityCodeAt x confidence = zeroCode field.confidence
+velocityCodeAt x innerRadius = zeroCode field.innerRadius
+velocityCodeAt x offset = zeroCode field.offset
+velocityCodeAt x included = zeroCode field.included
+
+abbrev pub velocityQuantityAt : VelocityQuantities → Quantities
+velocityQuantityAt q bearing = q .bearing
+velocityQuantityAt q horizontalSpeed = q .«horizontal_speed»
+velocityQuantityAt q verticalSpeed = q .«vertical_speed»
+velocityQuantityAt q speedUncertainty = q .uncertainty
+velocityQuantityAt q verticalUncertainty = q .«vertical_uncertainty»
+velocityQuantityAt q (latitude i) = zeroQuantity field.latitude
+velocityQuantityAt q (longitude i) = zeroQuantity field.longitude
+velocityQuantityAt q altitude = zeroQuantity field.altitude
+velocityQuantityAt q uncertainty = zeroQuantity field.uncertainty
+velocityQuantityAt q semiMajor = zeroQuantity field.uncertainty
+velocityQuantityAt q semiMinor = zeroQuantity field.uncertainty
+velocityQuantityAt q orientation = zeroQuantity field.orientation
+velocityQuantityAt q altitudeUncertainty = zeroQuantity field.altitudeUncertainty
+velocityQuantityAt q confidence = zeroQuantity field.confidence
+velocityQuantityAt q innerRadius = zeroQuantity field.innerRadius
+velocityQuantityAt q offset = zeroQuantity field.offset
+velocityQuantityAt q included = zeroQuantity field.included
+
+-- the quantities of a refusal: of no kind, and all zero
+abbrev pub noVelocity : VelocityQuantities
+noVelocity = record {
+  kind = Nothing;
+  bearing = zeroQuantity field.bearing;
+  «horizontal_speed» = zeroQuantity field.horizontalSpeed;
+  «vertical_speed» = zeroQuantity field.verticalSpeed;
+  uncertainty = zeroQuantity field.uncertaintySpeed;
+  «vertical_uncertainty» = zeroQuantity field.uncertaintySpeed;
+}
+
+-- ---- the promises
+
+-- the record's own quantities
+pub record VelocityQuantitiesOf (x : Velocity) (q : VelocityQuantities) : Type 0 where
+  pub kinds : q .kind ≡ x .kind
+  pub each : EachReported (velocityRows (x .kind)) (velocityCodeAt x) (velocityQuantityAt q)
+
+-- a record that the writer would refuse, room given, is refused with the same number
+pub record ReportsVelocity (x : Velocity) (r : VelocityReported) : Type 0 where
+  pub answer : WriteAnswer (velocityRows (x .kind)) (velocityValueOf x) (lengthOf (velocityRows (x .kind))) (outcomeNumber (r .outcome))
+  pub quantities : Given (r .outcome) (VelocityQuantitiesOf x (r .quantities)) (r .quantities ≡ noVelocity)
+
+-- the record of the quantities
+pub record VelocityRecordOf (q : VelocityQuantities) (x : Velocity) : Type 0 where
+  pub kinds : x .kind ≡ q .kind
+  pub each : EachCoded (velocityRows (q .kind)) (velocityQuantityAt q) (velocityCodeAt x)
+
+pub record CodesVelocity (q : VelocityQuantities) (r : VelocityCoded) : Type 0 where
+  pub answer : CodeAnswer (velocityRows (q .kind)) 0 (velocityQuantityAt q) (outcomeNumber (r .outcome))
+  pub velocity : Given (r .outcome) (VelocityRecordOf q (r .velocity)) (r .velocity ≡ blankVelocity Nothing)

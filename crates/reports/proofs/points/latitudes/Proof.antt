@@ -1,0 +1,66 @@
+-- After i turns the first i latitudes are reported, and the others zero.
+use Prim.Native.Nat.{_-_, _≤_}
+use mathlib.Core.Path.{_≡_}
+use borrow.Author.Needs.{needs}
+use native.Mathlib.Omega.{arith}
+use Rattle.reports.specs.Points.{LatitudesReported}
+use Rattle.reports.proofs.FillLaws.{none-filled, one-more}
+use Rattle.reports.proofs.points.latitudes.Statement.{statement}
+use Rattle.reports.proofs.points.latitudes.Tie as tie
+
+abbrev Inv-loop : tie.InvT-loop
+Inv-loop n codes reported₀ end i₀ reported i = (i ≤ n) × LatitudesReported codes i reported
+
+abbrev μ-loop : tie.MeasureT-loop
+μ-loop n codes reported₀ end i₀ reported i = n - i
+
+loop-holds : tie.Need-loop-holds Inv-loop μ-loop
+loop-holds c = (omega arith, none-filled _)
+
+mul-code : tie.Need-mul-code Inv-loop μ-loop
+mul-code c = search needs
+
+array-copy-out-code : tie.Need-array-copy-out-code Inv-loop μ-loop
+array-copy-out-code c = search needs
+
+latitude-requires : tie.Need-latitude-requires Inv-loop μ-loop
+latitude-requires c κs = c .before .before .before .pre .1 (c .before .before .loop .i) (search needs)
+
+mul-reported : tie.Need-mul-reported Inv-loop μ-loop
+mul-reported c = search needs
+
+array-set-from-reported : tie.Need-array-set-from-reported Inv-loop μ-loop
+array-set-from-reported c = search needs
+
+add-i : tie.Need-add-i Inv-loop μ-loop
+add-i c = search needs
+
+loop-less : tie.Need-loop-less Inv-loop μ-loop
+loop-less c = search needs
+
+loop-again : tie.Need-loop-again Inv-loop μ-loop
+loop-again c =
+    let l = c .before .before .before .loop in
+    (search needs, one-more _ (l .i) (l .reported) _ (l .inv .1) (search needs) (c .latitude .ensures))
+
+returns : tie.Need-returns Inv-loop μ-loop
+returns c =
+    let e : c .before .loop .i ≡ c .before .before .args .n = search needs in
+    rw e at (c .before .loop .inv .1)
+
+pub latitudes-spec : {M : Type 1} → statement M
+latitudes-spec =
+    tie.close
+    (tie.spec
+    Inv-loop
+    μ-loop
+    loop-holds
+    mul-code
+    array-copy-out-code
+    latitude-requires
+    mul-reported
+    array-set-from-reported
+    add-i
+    loop-less
+    loop-again
+    returns)
