@@ -72,7 +72,11 @@ fn signed(field: Signed, fields: &[u8]) -> Printed {
     }
     let from = end + 1;
     let sign = numerals::size_of(numerals::number_in(&fields[0..end]));
-    with_sign(field, sign, numerals::size_of(numerals::number_in(&fields[from..])))
+    with_sign(
+        field,
+        sign,
+        numerals::size_of(numerals::number_in(&fields[from..])),
+    )
 }
 
 fn with_sign(field: Signed, sign: Size, size: Size) -> Printed {
