@@ -1,6 +1,6 @@
 // The numbers of a line.
 use ground::Whole;
-use text::Signed32;
+use numerals::Signed32;
 ghost use mathlib.Core.Path.{_≡_};
 ghost use Prim.Native.Nat.{_≤_};
 ghost use lib.ListN.{length};
@@ -16,7 +16,7 @@ pub fn numbers_in(line: &[u8]) -> [i32; 64]
         if line.len() <= at {
             return values;
         }
-        let end = text::field_end(line, at);
+        let end = numerals::field_end(line, at);
         values[count] = number(&line[at..end]);
         if end == line.len() {
             return values;
@@ -28,7 +28,7 @@ pub fn numbers_in(line: &[u8]) -> [i32; 64]
 }
 
 fn number(field: &[u8]) -> i32 {
-    let Signed32::Number(n) = text::signed_32(text::number_in(field)) else {
+    let Signed32::Number(n) = numerals::signed_32(numerals::number_in(field)) else {
         return 0;
     };
     n

@@ -100,7 +100,7 @@ fn take_block(out: &mut [u8; 4096], line: &mut [u8; 4096], block: &[u8], held: H
     let mut h = held;
     let mut at = 0;
     while at < block.len() {
-        let end = text::line_end(block, at);
+        let end = numerals::line_end(block, at);
         h.used = hold(line, h.used, &block[at..end]);
         if end == block.len() {
             return h;

@@ -5,10 +5,10 @@ use coding::Unsigned;
 use ground::Nanodegrees;
 use ground::SignedMetresPerHour;
 use ground::SignedMillimetres;
+use numerals::Signed32;
+use numerals::Signed64;
+use numerals::Unsigned32;
 use printing::Printed;
-use text::Signed32;
-use text::Signed64;
-use text::Unsigned32;
 
 // The code for the name at that place.
 pub fn coded(place: usize, field: &[u8]) -> Printed {
@@ -35,14 +35,14 @@ pub fn coded(place: usize, field: &[u8]) -> Printed {
 }
 
 fn coordinate(which: Coordinate, field: &[u8]) -> Printed {
-    let Signed64::Number(x) = text::signed_64(text::number_in(field)) else {
+    let Signed64::Number(x) = numerals::signed_64(numerals::number_in(field)) else {
         return Printed::Unreadable;
     };
     printing::of_told(coding::coded_coordinate(which, Nanodegrees(x)))
 }
 
 fn unsigned(which: Unsigned, field: &[u8]) -> Printed {
-    let Unsigned32::Number(x) = text::unsigned_32(text::number_in(field)) else {
+    let Unsigned32::Number(x) = numerals::unsigned_32(numerals::number_in(field)) else {
         return Printed::Unreadable;
     };
     printing::of_told(coding::coded_unsigned(which, x))
@@ -58,7 +58,7 @@ fn markable(missing: Markable, given: Unsigned, field: &[u8]) -> Printed {
 
 // The altitude, at place 4, or the vertical speed.
 fn signed(place: usize, field: &[u8]) -> Printed {
-    let Signed32::Number(x) = text::signed_32(text::number_in(field)) else {
+    let Signed32::Number(x) = numerals::signed_32(numerals::number_in(field)) else {
         return Printed::Unreadable;
     };
     if place == 4 {

@@ -9,7 +9,7 @@ ghost use Rattle.lines.specs.Lines.{Answered};
 pub fn answer(line: &[u8]) -> Printed
     ensures { λ r. ⌜ Answered (now (line .entry)) r ⌝ }
 {
-    let end = text::field_end(line, 0);
+    let end = numerals::field_end(line, 0);
     if end == line.len() {
         return Printed::Unreadable;
     }
@@ -21,7 +21,7 @@ pub fn answer(line: &[u8]) -> Printed
 // The answer for the name that the fields start with; verb 0 is `code`, 1 `report`. How many fields come after the name is left
 // to what reads them.
 fn named(verb: usize, fields: &[u8]) -> Printed {
-    let end = text::field_end(fields, 0);
+    let end = numerals::field_end(fields, 0);
     if end == fields.len() {
         return Printed::Unreadable;
     }

@@ -3,7 +3,7 @@ pub fn place_among(s: &[u8], names: &[u8]) -> usize {
     let mut place: usize = 0;
     let mut from: usize = 0;
     while from < names.len() {
-        let end = text::field_end(names, from);
+        let end = numerals::field_end(names, from);
         if check::same(s, &names[from..end]) {
             return place;
         }

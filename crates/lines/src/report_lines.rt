@@ -1,21 +1,21 @@
 // A code's quantity. A number that is no code of the field is refused; what is no number makes its line unreadable.
 use ground::LongitudeCode;
+use numerals::Numeral;
+use numerals::Signed32;
+use numerals::Size;
 use printing::Printed;
 use reporting::Byte;
 use reporting::Signed;
 use reporting::Word;
-use text::Numeral;
-use text::Signed32;
-use text::Size;
 
 // The quantity for the name at that place.
 pub fn reported(place: usize, fields: &[u8]) -> Printed {
     match place {
         0 => signed(Signed::Latitude, fields),
-        1 => longitude(text::number_in(fields)),
+        1 => longitude(numerals::number_in(fields)),
         4 => signed(Signed::Altitude, fields),
         11 => signed(Signed::VerticalSpeed, fields),
-        _ => unsigned(place, text::size_of(text::number_in(fields))),
+        _ => unsigned(place, numerals::size_of(numerals::number_in(fields))),
     }
 }
 
@@ -58,7 +58,7 @@ fn longitude(n: Numeral) -> Printed {
     if let Numeral::Nothing = n {
         return Printed::Unreadable;
     }
-    let Signed32::Number(x) = text::signed_32(n) else {
+    let Signed32::Number(x) = numerals::signed_32(n) else {
         return Printed::Refused(7);
     };
     printing::of_told(reporting::reported_longitude(LongitudeCode(x)))
@@ -66,13 +66,17 @@ fn longitude(n: Numeral) -> Printed {
 
 // A code of two numbers, the first of them 0 or 1.
 fn signed(field: Signed, fields: &[u8]) -> Printed {
-    let end = text::field_end(fields, 0);
+    let end = numerals::field_end(fields, 0);
     if end == fields.len() {
         return Printed::Unreadable;
     }
     let from = end + 1;
-    let sign = text::size_of(text::number_in(&fields[0..end]));
-    with_sign(field, sign, text::size_of(text::number_in(&fields[from..])))
+    let sign = numerals::size_of(numerals::number_in(&fields[0..end]));
+    with_sign(
+        field,
+        sign,
+        numerals::size_of(numerals::number_in(&fields[from..])),
+    )
 }
 
 fn with_sign(field: Signed, sign: Size, size: Size) -> Printed {

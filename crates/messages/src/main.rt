@@ -16,7 +16,7 @@ fn take_lines(s: &[u8]) -> usize
     let mut lines: usize = 0;
     let mut at = 0;
     while at < s.len() {
-        let end = text::line_end(s, at);
+        let end = numerals::line_end(s, at);
         lines += 1;
         print_line(lines, &s[at..end]);
         if end == s.len() {
@@ -35,7 +35,7 @@ fn print_line(number: usize, line: &[u8]) {
 
 // Prints what a line asks for.
 fn print_answer(line: &[u8]) {
-    let end = text::field_end(line, 0);
+    let end = numerals::field_end(line, 0);
     if end == line.len() {
         return;
     }

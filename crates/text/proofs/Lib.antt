@@ -1,5 +1,1 @@
 pub mod OutputLaws
-pub mod MarkLaws
-pub mod NumeralLaws
-pub mod ReadBack
-pub mod WidthLaws

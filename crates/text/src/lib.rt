@@ -1,23 +1,54 @@
-// The text of the programs: numbers and octets put into a lent buffer, the ends of lines and fields, and numbers read
-// from fields, of some width.
-mod marks;
-mod numerals;
-mod output;
-mod widths;
+// The text of the programs, put into a lent buffer: what stood before and after it stays as it was.
+use ground::Whole;
+ghost use mathlib.Core.List.{[], _∷_};
+ghost use Prim.Native.Nat.{_+_, _≤_};
+ghost use lib.ListN.{length};
+ghost use Rattle.text.specs.Text.{Puts, decimal, signedDecimal};
 
-pub use marks::field_end;
-pub use marks::line_end;
-pub use numerals::Numeral;
-pub use numerals::number_in;
-pub use output::put_byte;
-pub use output::put_bytes;
-pub use output::put_decimal;
-pub use output::put_number;
-pub use widths::Signed32;
-pub use widths::Signed64;
-pub use widths::Size;
-pub use widths::Unsigned32;
-pub use widths::signed_32;
-pub use widths::signed_64;
-pub use widths::size_of;
-pub use widths::unsigned_32;
+// Puts one octet at `at`, and answers the place after it.
+pub fn put_byte(out: &mut [u8], at: usize, b: u8) -> usize
+    requires { ⌜ at + 1 ≤ length (now out) ⌝ }
+    ensures { λ r. ⌜ Puts (now (out .entry)) at (b ∷ []) (now (out .exit)) r ⌝ }
+{
+    out[at] = b;
+    at + 1
+}
+
+// Puts n in decimal, and answers the place after it.
+pub fn put_decimal(out: &mut [u8], at: usize, n: u64) -> usize
+    requires { ⌜ at + length (decimal n) ≤ length (now out) ⌝ }
+    ensures { λ r. ⌜ Puts (now (out .entry)) at (decimal n) (now (out .exit)) r ⌝ }
+{
+    if n < 10 {
+        return put_byte(out, at, (48 + n) as u8);
+    }
+    let next = put_decimal(out, at, n / 10);
+    put_byte(out, next, (48 + n % 10) as u8)
+}
+
+// Puts x in decimal, with a minus sign where it is below zero, and answers the place after it.
+pub fn put_number(out: &mut [u8], at: usize, x: Whole) -> usize
+    requires { ⌜ at + length (signedDecimal (x .0)) ≤ length (now out) ⌝ }
+    ensures { λ r. ⌜ Puts (now (out .entry)) at (signedDecimal (x .0)) (now (out .exit)) r ⌝ }
+{
+    let parts = ground::taken_apart(x);
+    let size = parts.size;
+    if parts.negative {
+        let next = put_byte(out, at, 45);
+        return put_decimal(out, next, size);
+    }
+    put_decimal(out, at, size)
+}
+
+// Puts the octets of src, and answers the place after them.
+pub fn put_bytes(out: &mut [u8], at: usize, src: &[u8]) -> usize
+    requires { ⌜ at + length (now src) ≤ length (now out) ⌝ }
+    ensures { λ r. ⌜ Puts (now (out .entry)) at (now (src .entry)) (now (out .exit)) r ⌝ }
+{
+    let mut i = 0;
+    while i < src.len() {
+        out[at + i] = src[i];
+        i += 1;
+    }
+    at + i
+}

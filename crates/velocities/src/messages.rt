@@ -56,8 +56,8 @@ fn put_four(out: &mut [u8], first: u16, speed: u16)
     requires { ⌜ 4 ≤ length (now out) ⌝ }
     ensures { λ _. ⌜ now (out .exit) ≡ sets (now (out .entry)) 0 (front first speed) ⌝ }
 {
-    octets::put_word(out, 0, first);
-    octets::put_word(out, 2, speed);
+    storing::put_word(out, 0, first);
+    storing::put_word(out, 2, speed);
 }
 
 fn put_five(out: &mut [u8], first: u16, speed: u16, fifth: u8)

@@ -67,7 +67,7 @@ fn numbers_of(shape: Shape) -> [u32; 15]
         bit(shape.altitude.0),
         bit(shape.latitude.0),
         shape.latitude.1,
-        octets::complement_of(shape.longitude),
+        storing::complement_of(shape.longitude),
     ]
 }
 

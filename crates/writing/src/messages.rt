@@ -86,7 +86,7 @@ fn put_rest(out: &mut [u8], shape: Shape)
             out[13] = shape.confidence.0;
         }
         Kind::Arc => {
-            octets::put_word(out, 7, shape.inner_radius.0);
+            storing::put_word(out, 7, shape.inner_radius.0);
             put_four(
                 out,
                 9,
@@ -117,8 +117,8 @@ fn put_altitude(out: &mut [u8], altitude: AltitudeCode)
     ensures { λ _. ⌜ now (out .exit) ≡ sets (now (out .entry)) 7 (level altitude) ⌝ }
 {
     if altitude.0 {
-        octets::put_word(out, 7, 32768 + altitude.1);
+        storing::put_word(out, 7, 32768 + altitude.1);
         return;
     }
-    octets::put_word(out, 7, altitude.1);
+    storing::put_word(out, 7, altitude.1);
 }

@@ -29,7 +29,7 @@ pub fn within(latitudes: [LatitudeCode; 15], longitudes: [LongitudeCode; 15], n:
 fn point_within(used: bool, latitude: LatitudeCode, longitude: LongitudeCode) -> bool
     ensures { λ r. ⌜ Decides r (PointWithin used latitude longitude) ⌝ }
 {
-    let turn = octets::complement_of(longitude);
+    let turn = storing::complement_of(longitude);
     if used {
         if 8388608 <= latitude.1 {
             return false;
@@ -74,7 +74,7 @@ pub fn put_position(out: &mut [u8], at: usize, latitude: LatitudeCode, longitude
     requires { ⌜ latitude .1 < 8388608 ⌝ }
     ensures { λ _. ⌜ now (out .exit) ≡ sets (now (out .entry)) at (position latitude longitude) ⌝ }
 {
-    octets::put_latitude(out, at, latitude);
-    let turn = octets::complement_of(longitude);
-    octets::put_three(out, at + 3, turn);
+    storing::put_latitude(out, at, latitude);
+    let turn = storing::complement_of(longitude);
+    storing::put_three(out, at + 3, turn);
 }

@@ -1,0 +1,3 @@
+pub mod Marks
+pub mod Numerals
+pub mod Widths

@@ -1,0 +1,26 @@
+-- The number that a field writes. Assumes nothing.
+use mathlib.Core.Bool.{Bool, true, false, cond}
+use mathlib.Core.List.{List, [], _∷_}
+use Prim.Native.Nat.{ℕ, _+_, _*_, _-_, min}
+use lib.Dec.{eqb, ltb}
+use Rattle.numerals.specs.declared.numerals.Numeral.{Numeral}
+use Rattle.numerals.specs.declared.numerals.Numeral.the-variants.{Number, Nothing}
+
+-- 48 to 57
+abbrev pub isDigit : ℕ → Bool
+isDigit b = cond (ltb b 48) false (ltb b 58)
+
+-- digits after the number v, and their sign. The size is what 64 bits hold of it, at most their largest number.
+unfoldable pub numberFrom : Bool → ℕ → List ℕ → Numeral
+numberFrom negative v [] = Number (record { negative = negative; size = min v 18446744073709551615 })
+numberFrom negative v (b ∷ s) = cond (isDigit b) (numberFrom negative (10 * v + (b - 48)) s) Nothing
+
+-- one digit or more, and nothing else
+unfoldable pub digitsOf : Bool → List ℕ → Numeral
+digitsOf negative [] = Nothing
+digitsOf negative (b ∷ s) = numberFrom negative 0 (b ∷ s)
+
+-- a minus sign (45) or none, and digits
+unfoldable pub numeralOf : List ℕ → Numeral
+numeralOf [] = Nothing
+numeralOf (b ∷ s) = cond (eqb b 45) (digitsOf true s) (digitsOf false (b ∷ s))

@@ -1,0 +1,63 @@
+// Numbers read from a field.
+use ground::Parts;
+ghost use mathlib.Core.Path.{_≡_};
+ghost use Prim.Native.Nat.{_*_, _+_, _≤_, _<_, min};
+ghost use lib.ListN.{drop, length};
+ghost use Rattle.numerals.specs.Numerals.{digitsOf, numeralOf};
+
+pub enum Numeral {
+    Number(Parts),
+    Nothing,
+}
+
+// The number that the whole field writes, or nothing. A size that 64 bits can't hold is their largest.
+pub fn number_in(field: &[u8]) -> Numeral
+    ensures { λ r. ⌜ r ≡ numeralOf (now (field .entry)) ⌝ }
+{
+    if field.len() == 0 {
+        return Numeral::Nothing;
+    }
+    if field[0] == 45 {
+        return digits_in(field, 1, true);
+    }
+    digits_in(field, 0, false)
+}
+
+// The number that the digits from `from` on write, with its sign.
+fn digits_in(field: &[u8], from: usize, negative: bool) -> Numeral
+    requires { ⌜ from ≤ length (now field) ⌝ }
+    ensures { λ r. ⌜ r ≡ digitsOf negative (drop from (now (field .entry))) ⌝ }
+{
+    if from == field.len() {
+        return Numeral::Nothing;
+    }
+    let mut size: u64 = 0;
+    let mut i = from;
+    while i < field.len() {
+        let b = field[i];
+        if b < 48 {
+            return Numeral::Nothing;
+        }
+        if 57 < b {
+            return Numeral::Nothing;
+        }
+        size = grown(size, b - 48);
+        i += 1;
+    }
+    Numeral::Number(Parts { negative, size })
+}
+
+// One digit more after a number, as far as 64 bits can hold it.
+fn grown(size: u64, digit: u8) -> u64
+    requires { ⌜ digit < 10 ⌝ }
+    ensures { λ r. ⌜ r ≡ min (10 * size + digit) 18446744073709551615 ⌝ }
+{
+    let d = digit as u64;
+    if 1844674407370955161 < size {
+        return 18446744073709551615;
+    }
+    if 18446744073709551615 - size * 10 < d {
+        return 18446744073709551615;
+    }
+    size * 10 + d
+}

@@ -1,0 +1,67 @@
+// Numbers and codes stored as octets in a lent buffer, high octet first.
+use ground::LatitudeCode;
+use ground::LongitudeCode;
+ghost use mathlib.Core.Path.{_≡_};
+ghost use mathlib.Core.List.{[], _∷_};
+ghost use Prim.Native.Nat.{_+_, _<_, _≤_};
+ghost use lib.ListN.{length};
+ghost use lib.Seq.{sets};
+ghost use Rattle.octets.specs.Bits.{octets};
+ghost use Rattle.octets.specs.Codes.{complement, latitudeBits};
+
+// Stores one octet.
+pub fn put_octet(out: &mut [u8], at: usize, n: u8)
+    requires { ⌜ at < length (now out) ⌝ }
+    ensures { λ _. ⌜ now (out .exit) ≡ sets (now (out .entry)) at (n ∷ []) ⌝ }
+{
+    out[at] = n;
+}
+
+// Stores the two octets of a number.
+pub fn put_word(out: &mut [u8], at: usize, n: u16)
+    requires { ⌜ at + 2 ≤ length (now out) ⌝ }
+    ensures { λ _. ⌜ now (out .exit) ≡ sets (now (out .entry)) at (octets 2 n) ⌝ }
+{
+    out[at] = (n / 256 % 256) as u8;
+    out[at + 1] = (n % 256) as u8;
+}
+
+// Stores the three octets of a number.
+pub fn put_three(out: &mut [u8], at: usize, n: u32)
+    requires { ⌜ at + 3 ≤ length (now out) ⌝ }
+    ensures { λ _. ⌜ now (out .exit) ≡ sets (now (out .entry)) at (octets 3 n) ⌝ }
+{
+    out[at] = (n / 256 / 256 % 256) as u8;
+    out[at + 1] = (n / 256 % 256) as u8;
+    out[at + 2] = (n % 256) as u8;
+}
+
+// Stores the three octets of a latitude.
+pub fn put_latitude(out: &mut [u8], at: usize, latitude: LatitudeCode)
+    requires { ⌜ at + 3 ≤ length (now out) ⌝ }
+    requires { ⌜ latitude .1 < 8388608 ⌝ }
+    ensures { λ _. ⌜ now (out .exit) ≡ sets (now (out .entry)) at (octets 3 (latitudeBits latitude)) ⌝ }
+{
+    if latitude.0 {
+        put_three(out, at, 8388608 + latitude.1);
+        return;
+    }
+    put_three(out, at, latitude.1);
+}
+
+// The number of 24 bits that stands for a longitude, or 2^24 where there is none.
+pub fn complement_of(longitude: LongitudeCode) -> u32
+    ensures { λ r. ⌜ r ≡ complement (longitude .0) ⌝ }
+{
+    let n = longitude.0;
+    if n < -8388608 {
+        return 16777216;
+    }
+    if n < 0 {
+        return (n + 16777216) as u32;
+    }
+    if n < 8388608 {
+        return n as u32;
+    }
+    16777216
+}
