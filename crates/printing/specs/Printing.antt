@@ -1,12 +1,12 @@
 -- What is printed for a line, and its text. Assumes nothing.
 use mathlib.Core.Bool.{Bool, cond}
 use mathlib.Core.List.{List, [], _∷_, _++_}
-use Prim.Native.Nat.{ℕ, _+_, _≤_}
+use Prim.Native.Nat.{ℕ}
 use lib.IntN.{pos}
 use Rattle.ground.specs.Answers.{numberOf}
 use Rattle.ground.specs.declared.told.Told.{Told}
 use Rattle.ground.specs.declared.told.Told.the-variants as told
-use Rattle.text.specs.Text.{decimal, signedDecimal, Puts}
+use Rattle.text.specs.Text.{decimal, signedDecimal}
 use Rattle.printing.specs.declared.printed.Printed.{Printed}
 use Rattle.printing.specs.declared.printed.Printed.the-variants.{Unreadable, Refused, Missing, One, Two}
 
@@ -40,8 +40,3 @@ lineText number printed = decimal number ++ 32 ∷ printedText printed ++ 10 ∷
 -- end NUMBER, and a newline
 unfoldable pub endText : ℕ → List ℕ
 endText lines = 101 ∷ 110 ∷ 100 ∷ 32 ∷ decimal lines ++ 10 ∷ []
-
--- the text is put, and takes at most so many octets
-pub record PutsWithin (most : ℕ) (before : List ℕ) (at : ℕ) (text after : List ℕ) (next : ℕ) : Type 0 where
-  pub puts : Puts before at text after next
-  pub within : next ≤ at + most

@@ -2,7 +2,8 @@
 use crate::printed::Printed;
 ghost use Prim.Native.Nat.{_+_, _≤_};
 ghost use lib.ListN.{length};
-ghost use Rattle.printing.specs.Printing.{PutsWithin, lineText, endText, printedText, signText};
+ghost use Rattle.text.specs.Text.{PutsWithin};
+ghost use Rattle.printing.specs.Printing.{lineText, endText, printedText, signText};
 
 // Puts the line's number and its answer, and answers the place after them.
 pub fn put_line(out: &mut [u8], at: usize, number: u64, printed: Printed) -> usize

@@ -76,9 +76,9 @@ module _ (rows : List Row) where
       axes =
           by-use rows layout.semiMinor (quantity semiMinor .0 ≤ quantity semiMajor .0)
           (λ u.
-            let minor = reported .used semiMinor u in
-            let major = reported .used semiMajor (together u) in
-            major .greatest (quantity semiMinor .0) (covers-up (omega arith) (code semiMajor .0) order (minor .covered)))
+          let minor = reported .used semiMinor u in
+          let major = reported .used semiMajor (together u) in
+          major .greatest (quantity semiMinor .0) (covers-up (omega arith) (code semiMajor .0) order (minor .covered)))
           (λ e. let z = reported .unused semiMinor e in rw z (omega arith))
 
       pub answer-back : (n : ℕ) → Listed rows → CountSound rows (λ f. n) → (Unused rows layout.count → n ≡ 0) → CodeAnswer rows n quantity 0

@@ -3,7 +3,7 @@ use borrow.Author.Needs.{needs}
 use native.Mathlib.Omega.{arith}
 use Rattle.text.proofs.OutputLaws.{decimal-most}
 use Rattle.printing.specs.Printing.{endText}
-use Rattle.printing.proofs.PrintingLaws.{within, octet-within, decimal-within, after, fewer}
+use Rattle.text.proofs.WithinLaws.{within, octet-within, decimal-within, after, fewer}
 use Rattle.printing.proofs.output.put_end.Statement.{statement}
 use Rattle.printing.proofs.output.put_end.Tie as tie
 

@@ -3,7 +3,7 @@ use borrow.Author.Needs.{needs}
 use native.Mathlib.Omega.{arith}
 use Rattle.text.proofs.OutputLaws.{decimal-most}
 use Rattle.printing.specs.Printing.{lineText}
-use Rattle.printing.proofs.PrintingLaws.{octet-within, decimal-within, after}
+use Rattle.text.proofs.WithinLaws.{octet-within, decimal-within, after}
 use Rattle.printing.proofs.output.put_line.Statement.{statement}
 use Rattle.printing.proofs.output.put_line.Tie as tie
 

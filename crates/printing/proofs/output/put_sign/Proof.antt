@@ -1,7 +1,7 @@
 -- The sign's digit, between a 0 and the number.
 use native.Mathlib.Omega.{arith}
 use Rattle.printing.specs.Printing.{signText}
-use Rattle.printing.proofs.PrintingLaws.{within}
+use Rattle.text.proofs.WithinLaws.{within}
 use borrow.Author.Needs.{needs}
 use Rattle.printing.proofs.output.put_sign.Statement.{statement}
 use Rattle.printing.proofs.output.put_sign.Tie as tie
