@@ -5,3 +5,4 @@ pub mod OneAnswer
 pub mod OneOfEach
 pub mod Kept
 pub mod Column
+pub mod QuantityLaws

@@ -1,3 +1,4 @@
 pub mod Fields
 pub mod Travels
 pub mod Reported
+pub mod Quantities

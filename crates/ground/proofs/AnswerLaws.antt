@@ -16,6 +16,10 @@ module _ {A : Type 0} (right : A → Type 0) (number : ℕ) (reason : Type 0) (o
   one-answer (refused m) (done b) p q = absurd (apart b q (p .1))
   one-answer (refused m) (refused n) p q = ap refused (p .0 ∙ sym (q .0))
 
+-- what is said on 0 is told by its value
+pub said-one : {A : Type 0} {a b : A} → _≡_ {A = Said A} (done a) (done b) → a ≡ b
+said-one e = cc
+
 pub refusal-back : (why : Refusal) → refusalOf (numberOf why) ≡ why
 refusal-back NoOctets = refl
 refusal-back UnknownType = refl

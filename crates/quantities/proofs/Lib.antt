@@ -1,2 +1,3 @@
 pub mod ZeroLaws
 pub mod UnusedLaws
+pub mod HeldLaws

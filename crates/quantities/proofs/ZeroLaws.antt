@@ -6,6 +6,7 @@ use native.Mathlib.Omega.{arith}
 use lib.Dec.{T}
 use lib.IntN.{pos}
 use Rattle.ground.specs.Answers.{Said, done, refused}
+use Rattle.ground.proofs.AnswerLaws.{said-one}
 use Rattle.coordinates.specs.Longitude.{LongitudeSet}
 use Rattle.coordinates.proofs.LatitudeLaws.{least-size}
 use Rattle.coordinates.proofs.LongitudeLaws.{reported}
@@ -47,12 +48,9 @@ zero-reported verticalSpeed e = record { code = omega arith; speed = refl }
 zero-reported uncertaintySpeed e = record { code = omega arith; covered = record { within = omega arith }; greatest = λ s p. p .within }
 zero-reported confidence e = refl
 
-said : {A : Type 0} {a b : A} → _≡_ {A = Said A} (done a) (done b) → a ≡ b
-said e = cc
-
 -- so a code that is zero reports zero, and a quantity that is zero codes zero
 pub reports-zero : (f : Field) (c : CodeOf f) (x : QuantityOf f) → hasZero f ≡ true → c ≡ zeroCode f → Reporting f c (done x) → x ≡ zeroQuantity f
-reports-zero f c x h e p = said (reporting-one f c (done x) (done (zeroQuantity f)) p (rw e (zero-reported f h)))
+reports-zero f c x h e p = said-one (reporting-one f c (done x) (done (zeroQuantity f)) p (rw e (zero-reported f h)))
 
 pub codes-zero : (f : Field) (x : QuantityOf f) (a : Said (CodeOf f)) → hasZero f ≡ true → x ≡ zeroQuantity f → Coding f x a → a ≡ done (zeroCode f)
 codes-zero f x a h e p = coding-one f x a (done (zeroCode f)) p (rw e (own-set f (zeroCode f) (zeroQuantity f) (zero-reported f h)))

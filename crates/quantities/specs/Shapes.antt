@@ -113,6 +113,10 @@ noShape = record {
 
 -- ---- the promises
 
+-- a record that the writer takes, room given
+abbrev pub TakesShape : Shape → Type 0
+TakesShape x = WriteAnswer (rowsOf x) (valueOf x) (lengthOf (rowsOf x)) 0
+
 -- the record's own quantities
 pub record QuantitiesOf (x : Shape) (q : ShapeQuantities) : Type 0 where
   pub kinds : q .kind ≡ x .kind

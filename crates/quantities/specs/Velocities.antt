@@ -93,6 +93,10 @@ noVelocity = record {
 
 -- ---- the promises
 
+-- a record that the writer takes, room given
+abbrev pub TakesVelocity : Velocity → Type 0
+TakesVelocity x = WriteAnswer (velocityRows (x .kind)) (velocityValueOf x) (lengthOf (velocityRows (x .kind))) 0
+
 -- the record's own quantities
 pub record VelocityQuantitiesOf (x : Velocity) (q : VelocityQuantities) : Type 0 where
   pub kinds : q .kind ≡ x .kind

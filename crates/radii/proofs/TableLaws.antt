@@ -22,10 +22,10 @@ nth f (suc n) i zero h = ap f (sym (add-zero i))
 nth f (suc n) i (suc k) h = nth f n (suc i) k (le-of-suc-le-suc h) ∙ ap f (suc-add i k ∙ sym (add-suc i k))
 
 module _ (scale num den : ℕ) (p : 0 < den) where
-  abbrev quotient : ℕ → ℕ
+  abbrev pub quotient : ℕ → ℕ
   quotient K = scale * (num ^ K - den ^ K) / den ^ K
 
-  is-greatest : (K : ℕ) → K < 128 → GreatestCovered (Covers scale num den) 127 K (quotient K)
+  pub is-greatest : (K : ℕ) → K < 128 → GreatestCovered (Covers scale num den) 127 K (quotient K)
   is-greatest K h = record {
     code = omega arith;
     covered = record { within = div-mul-le-self (scale * (num ^ K - den ^ K)) (den ^ K) };

@@ -1,4 +1,4 @@
--- A record that the writer takes: its fields hold its codes, and what is reported of each is what its quantities are. Assumes nothing.
+-- What is reported of the codes of a record that the writer takes are its quantities. Assumes nothing.
 use Prim.Native.Nat.{ℕ, zero, suc, _+_, _*_, _^_, _≤_, _<_}
 use mathlib.Core.Path.{_≡_, refl, sym, _∙_}
 use mathlib.Core.Bool.{Bool, true, false}
@@ -51,93 +51,13 @@ use Rattle.quantities.specs.Places.{
   Unused,
   zeroQuantity,
 }
-use Rattle.quantities.specs.Shapes.{codeAt, quantityAt, QuantitiesOf}
-use Rattle.quantities.specs.Velocities.{velocityCodeAt, velocityQuantityAt, VelocityQuantitiesOf}
+use Rattle.quantities.specs.Shapes.{codeAt, quantityAt, TakesShape, QuantitiesOf}
+use Rattle.quantities.specs.Velocities.{velocityCodeAt, velocityQuantityAt, TakesVelocity, VelocityQuantitiesOf}
+use Rattle.quantities.proofs.HeldLaws.{taken, motion-taken}
 use Rattle.quantities.proofs.ZeroLaws.{hasZero, reports-zero}
 use Rattle.quantities.proofs.UnusedLaws.{used-point, unused-point, counted-points, unused-code, unused-motion}
 use Rattle.reports.specs.Points.{LatitudesHeld, LatitudesReported, LongitudesHeld, LongitudesReported}
-use Rattle.reports.specs.Taken.{TakesShape, TakesVelocity, IncludedReported}
-
-sound-of : (rows : List Row) (value : Field → ℕ) → WriteAnswer rows value (lengthOf rows) 0 → Sound rows value
-sound-of rows value t = sound rows value (lengthOf rows) t .0
-
--- a number that is below a bound where it is used, and has no bits where it isn't
-bounded : (rows : List Row) (value : Field → ℕ) (f : Field) (most : ℕ) → InFields rows value → 0 < most → (Used rows f → value f < most) → value f < most
-bounded rows value f most h some used = by (ltb 0 (widthOf rows f)) refl
-  where
-    by : (b : Bool) → ltb 0 (widthOf rows f) ≡ b → value f < most
-    by true e = used (ltb-true 0 (widthOf rows f) e)
-    by false e =
-        let z : widthOf rows f ≤ 0 = ltb-false 0 (widthOf rows f) e in
-        let w : widthOf rows f ≡ 0 = omega arith in
-        let l : value f < 2 ^ 0 = rw w at (h .each f) in
-        omega arith
-
-turn-held : (z : ℤ) → complement z < 16777216 → mag z < 8388608
-turn-held (pos n) h = by (ltb n 8388608) refl
-  where
-    by : (b : Bool) → ltb n 8388608 ≡ b → n < 8388608
-    by true e = ltb-true n 8388608 e
-    by false e = absurd (omega (arith, rw e at h))
-turn-held (negsuc n) h = by (ltb n 8388608) refl
-  where
-    by : (b : Bool) → ltb n 8388608 ≡ b → n < 8388608
-    by true e = ltb-true n 8388608 e
-    by false e = absurd (omega (arith, rw e at h))
-
--- ---- shapes
-
-module _ (x : Shape) (t : TakesShape x) where
-  taken : Sound (rowsOf x) (valueOf x)
-  taken = sound-of (rowsOf x) (valueOf x) t
-
-  held : (f : Field) (most : ℕ) → 0 < most → (Used (rowsOf x) f → valueOf x f < most) → valueOf x f < most
-  held f most = bounded (rowsOf x) (valueOf x) f most (taken .fields)
-
-  number : (f : Field) → valueOf x f < 2 ^ shapeWidest f
-  number = code-of (x .kind) (x .count) (valueOf x) (taken .fields)
-
-  pub latitude-held : x .latitude .1 < 8388608
-  latitude-held = number (layout.latitude 0)
-
-  pub longitude-held : mag (x .longitude .0) < 8388608
-  longitude-held = turn-held (x .longitude .0) (number (layout.longitude 0))
-
-  pub altitude-held : x .altitude .1 < 32768
-  altitude-held = number layout.altitude
-
-  pub uncertainty-held : x .uncertainty .0 < 128
-  uncertainty-held = number layout.uncertainty
-
-  pub semi-major-held : x .«semi_major» .0 < 128
-  semi-major-held = number layout.semiMajor
-
-  pub semi-minor-held : x .«semi_minor» .0 < 128
-  semi-minor-held = number layout.semiMinor
-
-  pub altitude-uncertainty-held : x .«altitude_uncertainty» .0 < 128
-  altitude-uncertainty-held = number layout.altitudeUncertainty
-
-  pub orientation-held : x .orientation .0 < 180
-  orientation-held = held layout.orientation 180 (omega arith) (taken .angles .orientations)
-
-  pub offset-held : x .offset .0 < 180
-  offset-held = held layout.offset 180 (omega arith) (taken .angles .offsets)
-
-  pub included-held : x .included .0 < 180
-  included-held = held layout.included 180 (omega arith) (taken .angles .includeds)
-
-  pub confidence-held : x .confidence .0 < 101
-  confidence-held = held layout.confidence 101 (omega arith) (taken .sure .confidences)
-
-  pub count-held : x .count ≤ 15
-  count-held = let l : x .count < 16 = held layout.count 16 (omega arith) (λ u. let m = taken .counted .most u in omega arith) in omega arith
-
-  pub latitudes-held : LatitudesHeld (x .latitudes) (x .count)
-  latitudes-held i h = number (layout.latitude (suc i))
-
-  pub longitudes-held : LongitudesHeld (x .longitudes) (x .count)
-  longitudes-held i h = turn-held (codeAt x (longitude (suc i)) .0) (number (layout.longitude (suc i)))
+use Rattle.reports.specs.Included.{IncludedReported}
 
 -- what is reported of the codes that a shape has one of; an included angle aside
 pub record Fixed (x : Shape) (q : ShapeQuantities) : Type 0 where
@@ -215,12 +135,6 @@ module _ (x : Shape) (t : TakesShape x) (q : ShapeQuantities) (fixed : Fixed x q
 -- ---- velocities
 
 module _ (x : Velocity) (t : TakesVelocity x) where
-  motion-taken : Sound (velocityRows (x .kind)) (velocityValueOf x)
-  motion-taken = sound-of (velocityRows (x .kind)) (velocityValueOf x) t
-
-  pub bearing-held : x .bearing .0 < 360
-  bearing-held = bounded (velocityRows (x .kind)) (velocityValueOf x) layout.bearing 360 (motion-taken .fields) (omega arith) (motion-taken .angles .bearings)
-
   module _ (q : VelocityQuantities) (bearings : Reporting field.bearing (x .bearing) (done (q .bearing)))
       (horizontals : Reporting field.horizontalSpeed (x .«horizontal_speed») (done (q .«horizontal_speed»)))
       (verticals : Reporting field.verticalSpeed (x .«vertical_speed») (done (q .«vertical_speed»)))
@@ -249,7 +163,7 @@ module _ (x : Velocity) (t : TakesVelocity x) where
     motion-used included u = absurd (no-motion layout.included refl u)
 
     motion-zero : (p : Place) → hasZero (fieldOf p) ≡ true → Unused (velocityRows (x .kind)) (rowOf p) → Reporting (fieldOf p) (velocityCodeAt x p) (done (velocityQuantityAt q p)) → velocityQuantityAt q p ≡ zeroQuantity (fieldOf p)
-    motion-zero p h e r = reports-zero (fieldOf p) (velocityCodeAt x p) (velocityQuantityAt q p) h (unused-motion x (motion-taken .fields) p e) r
+    motion-zero p h e r = reports-zero (fieldOf p) (velocityCodeAt x p) (velocityQuantityAt q p) h (unused-motion x (motion-taken x t .fields) p e) r
 
     motion-unused : (p : Place) → Unused (velocityRows (x .kind)) (rowOf p) → velocityQuantityAt q p ≡ zeroQuantity (fieldOf p)
     motion-unused bearing e = motion-zero bearing refl e bearings

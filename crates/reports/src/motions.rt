@@ -1,8 +1,7 @@
 // The quantities of a velocity that the writer takes.
 use layout::Velocity;
 use quantities::VelocityQuantities;
-ghost use Rattle.quantities.specs.Velocities.{VelocityQuantitiesOf};
-ghost use Rattle.reports.specs.Taken.{TakesVelocity};
+ghost use Rattle.quantities.specs.Velocities.{TakesVelocity, VelocityQuantitiesOf};
 
 pub fn quantities_of(velocity: Velocity) -> VelocityQuantities
     requires { ⌜ TakesVelocity velocity ⌝ }

@@ -7,8 +7,8 @@ use layout::Kind;
 use layout::Shape;
 use quantities::ShapeQuantities;
 ghost use Prim.Native.Nat.{_<_};
-ghost use Rattle.quantities.specs.Shapes.{QuantitiesOf};
-ghost use Rattle.reports.specs.Taken.{TakesShape, IncludedReported};
+ghost use Rattle.quantities.specs.Shapes.{TakesShape, QuantitiesOf};
+ghost use Rattle.reports.specs.Included.{IncludedReported};
 
 pub fn quantities_of(shape: Shape) -> ShapeQuantities
     requires { ⌜ TakesShape shape ⌝ }

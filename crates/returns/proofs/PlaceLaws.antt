@@ -8,7 +8,7 @@ use native.Mathlib.Omega.{arith}
 use lib.Dec.{ltb}
 use borrow.Author.Tests.{ltb-true, ltb-false}
 use Rattle.ground.specs.Answers.{Said, done, refused, met}
-use Rattle.ground.proofs.AnswerLaws.{unless-one}
+use Rattle.ground.proofs.AnswerLaws.{unless-one, said-one}
 use Rattle.radii.proofs.CoverLaws.{covers-up}
 use Rattle.fields.specs.Fields.{CodeOf, QuantityOf, Coding, Reporting}
 use Rattle.fields.specs.Fields as field
@@ -20,9 +20,6 @@ use Rattle.layout.specs.Rows.{widthOf}
 use Rattle.layout.specs.Demands.{Listed, Used, CountSound}
 use Rattle.quantities.specs.Places.{Place, semiMajor, semiMinor, fieldOf, rowOf, Codes, Quantities, Unused, zeroCode, zeroQuantity}
 use Rattle.quantities.specs.Promises.{EachReported, EachCoded, InRange, Covered, CodeAnswer}
-
-said : {A : Type 0} {a b : A} → _≡_ {A = Said A} (done a) (done b) → a ≡ b
-said e = cc
 
 abbrev IsRefused : {A : Type 0} → Said A → Type 0
 IsRefused (done a) = ⊥
@@ -45,13 +42,13 @@ module _ (rows : List Row) where
   pub reported-same : (code : Codes) (q r : Quantities) → EachReported rows code q → EachReported rows code r → (p : Place) → q p ≡ r p
   reported-same code q r a b p =
       by-use rows (rowOf p) (q p ≡ r p)
-      (λ u. said (reporting-one (fieldOf p) (code p) (done (q p)) (done (r p)) (a .used p u) (b .used p u)))
+      (λ u. said-one (reporting-one (fieldOf p) (code p) (done (q p)) (done (r p)) (a .used p u) (b .used p u)))
       (λ e. a .unused p e ∙ sym (b .unused p e))
 
   pub coded-same : (quantity : Quantities) (c d : Codes) → EachCoded rows quantity c → EachCoded rows quantity d → (p : Place) → c p ≡ d p
   coded-same quantity c d a b p =
       by-use rows (rowOf p) (c p ≡ d p)
-      (λ u. said (coding-one (fieldOf p) (quantity p) (done (c p)) (done (d p)) (a .used p u) (b .used p u)))
+      (λ u. said-one (coding-one (fieldOf p) (quantity p) (done (c p)) (done (d p)) (a .used p u) (b .used p u)))
       (λ e. a .unused p e ∙ sym (b .unused p e))
 
   pub code-answer-one : (n : ℕ) (quantity : Quantities) (a b : ℕ) → CodeAnswer rows n quantity a → CodeAnswer rows n quantity b → a ≡ b
@@ -67,7 +64,7 @@ module _ (rows : List Row) where
     pub coded-back : (d : Codes) → EachCoded rows quantity d → (p : Place) → d p ≡ code p
     coded-back d c p =
         by-use rows (rowOf p) (d p ≡ code p)
-        (λ u. said (kept (fieldOf p) (code p) (quantity p) (done (d p)) (reported .used p u) (c .used p u)))
+        (λ u. said-one (kept (fieldOf p) (code p) (quantity p) (done (d p)) (reported .used p u) (c .used p u)))
         (λ e. c .unused p e ∙ sym (zeros p e))
 
     module _ (together : Used rows layout.semiMinor → Used rows layout.semiMajor) (order : code semiMinor .0 ≤ code semiMajor .0) where

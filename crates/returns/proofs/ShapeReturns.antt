@@ -45,7 +45,7 @@ use Rattle.quantities.specs.Places.{
   included,
 }
 use Rattle.quantities.specs.Promises.{EachCoded, CodeAnswer, Given}
-use Rattle.quantities.specs.Shapes.{codeAt, quantityAt, zeroDegrees, noShape, QuantitiesOf, ReportsShape, quantityRows, RecordOf, CodesShape}
+use Rattle.quantities.specs.Shapes.{codeAt, quantityAt, zeroDegrees, noShape, QuantitiesOf, ReportsShape, quantityRows, RecordOf, CodesShape, TakesShape}
 use Rattle.quantities.proofs.UnusedLaws.{no-number, unused-code}
 use Rattle.returns.specs.Travels.{ShapeTravels, stays, goes, AxesInOrder}
 use Rattle.returns.proofs.PlaceLaws.{reported-same, coded-same, code-answer-one, coded-back, answer-back}
@@ -133,11 +133,7 @@ together shape.AltitudePoint n u = u
 together shape.AltitudeEllipsoid n u = omega arith
 together shape.Arc n u = u
 
--- a record that the writer takes, room given: one that can be reported
-abbrev pub Reportable : Shape → Type 0
-Reportable x = WriteAnswer (rowsOf x) (valueOf x) (lengthOf (rowsOf x)) 0
-
-module _ (x : Shape) (can : Reportable x) (order : AxesInOrder x) (fifteen : Fifteen x) where
+module _ (x : Shape) (can : TakesShape x) (order : AxesInOrder x) (fifteen : Fifteen x) where
   can-sound : Sound (rowsOf x) (valueOf x)
   can-sound = sound (rowsOf x) (valueOf x) (lengthOf (rowsOf x)) can .0
 

@@ -26,7 +26,7 @@ use Rattle.quantities.specs.declared.velocities.VelocityReported.{VelocityRepor
 use Rattle.quantities.specs.declared.velocities.VelocityCoded.{VelocityCoded}
 use Rattle.quantities.specs.Places.{Place, bearing, horizontalSpeed, verticalSpeed, speedUncertainty, verticalUncertainty}
 use Rattle.quantities.specs.Promises.{EachCoded, CodeAnswer, Given}
-use Rattle.quantities.specs.Velocities.{velocityCodeAt, velocityQuantityAt, noVelocity, VelocityQuantitiesOf, ReportsVelocity, VelocityRecordOf, CodesVelocity}
+use Rattle.quantities.specs.Velocities.{velocityCodeAt, velocityQuantityAt, noVelocity, VelocityQuantitiesOf, ReportsVelocity, VelocityRecordOf, CodesVelocity, TakesVelocity}
 use Rattle.quantities.proofs.UnusedLaws.{unused-motion}
 use Rattle.returns.specs.Travels.{VelocityTravels, stays, goes}
 use Rattle.returns.proofs.PlaceLaws.{reported-same, coded-same, code-answer-one, coded-back, answer-back}
@@ -84,11 +84,7 @@ codes-velocity-one q a b r s =
 no-axes : (k : VelocityKind) → Used (velocityRows k) layout.semiMinor → Used (velocityRows k) layout.semiMajor
 no-axes k u = let w = velocity-width k layout.semiMinor in absurd (omega arith)
 
--- a record that the writer takes, room given: one that can be reported
-abbrev pub Reportable : Velocity → Type 0
-Reportable x = WriteAnswer (velocityRows (x .kind)) (velocityValueOf x) (lengthOf (velocityRows (x .kind))) 0
-
-module _ (x : Velocity) (can : Reportable x) where
+module _ (x : Velocity) (can : TakesVelocity x) where
   can-sound : Sound (velocityRows (x .kind)) (velocityValueOf x)
   can-sound = sound (velocityRows (x .kind)) (velocityValueOf x) (lengthOf (velocityRows (x .kind))) can .0
 

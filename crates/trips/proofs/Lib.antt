@@ -6,3 +6,4 @@ pub mod ShapeRecords
 pub mod ShapeTrips
 pub mod VelocityTrips
 pub mod SpareLaws
+pub mod ReadNumberLaws

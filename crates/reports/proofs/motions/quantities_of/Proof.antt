@@ -1,6 +1,8 @@
 -- Each code is reported as its field's codes are.
 use mathlib.Core.Path.{refl}
-use Rattle.reports.proofs.TakenLaws.{bearing-held, motion-reported}
+use Rattle.quantities.specs.Places.{bearing}
+use Rattle.quantities.proofs.HeldLaws.{velocity-held}
+use Rattle.reports.proofs.TakenLaws.{motion-reported}
 use Rattle.reports.proofs.motions.quantities_of.Statement.{statement}
 use Rattle.reports.proofs.motions.quantities_of.Tie as tie
 
@@ -11,7 +13,7 @@ reported-uncertainty-speed-requires-2 : tie.Need-reported-uncertainty-speed-requ
 reported-uncertainty-speed-requires-2 c κs = tt
 
 bearing-requires : tie.Need-bearing-requires
-bearing-requires c κs = bearing-held (c .before .before .args .velocity) (c .before .before .pre)
+bearing-requires c κs = velocity-held (c .before .before .args .velocity) (c .before .before .pre) bearing
 
 reported-horizontal-speed-requires : tie.Need-reported-horizontal-speed-requires
 reported-horizontal-speed-requires c κs = tt

@@ -8,7 +8,7 @@ use Rattle.layout.specs.declared.shapes.Kind.{Kind}
 use Rattle.layout.specs.declared.shapes.Kind.the-variants.{Nothing, Point, Circle, Ellipse, Polygon, AltitudePoint, AltitudeEllipsoid, Arc}
 use Rattle.quantities.specs.Places.{zeroQuantity}
 use Rattle.fields.specs.Fields as field
-use Rattle.reports.specs.Taken.{IncludedReported}
+use Rattle.reports.specs.Included.{IncludedReported}
 use Rattle.reports.proofs.shapes.included_of.Statement.{statement}
 use Rattle.reports.proofs.shapes.included_of.Tie as tie
 

@@ -1,54 +1,57 @@
 -- A code that its field holds is reported; what isn't used is zero, and reports zero.
+use Prim.Native.Nat.{suc}
 use mathlib.Core.Path.{refl}
-use Rattle.reports.proofs.TakenLaws.{latitude-held, longitude-held, altitude-held, uncertainty-held, semi-major-held, semi-minor-held, altitude-uncertainty-held, orientation-held, offset-held, included-held, confidence-held, count-held, latitudes-held, longitudes-held, all-reported}
+use Rattle.quantities.specs.Places.{latitude, longitude, altitude, uncertainty, semiMajor, semiMinor, orientation, altitudeUncertainty, confidence, offset, included}
+use Rattle.quantities.proofs.HeldLaws.{shape-held, count-held}
+use Rattle.reports.proofs.TakenLaws.{all-reported}
 use Rattle.reports.proofs.shapes.quantities_of.Statement.{statement}
 use Rattle.reports.proofs.shapes.quantities_of.Tie as tie
 
 included-of-requires : tie.Need-included-of-requires
-included-of-requires c κs = let start = c .before .before in included-held (start .args .shape) (start .pre)
+included-of-requires c κs = let start = c .before .before in shape-held (start .args .shape) (start .pre) included
 
 latitudes-requires : tie.Need-latitudes-requires
 latitudes-requires c κs =
     let start = c .before .before .before in
-    (count-held (start .args .shape) (start .pre), latitudes-held (start .args .shape) (start .pre))
+    (count-held (start .args .shape) (start .pre), λ i h. shape-held (start .args .shape) (start .pre) (latitude (suc i)))
 
 longitudes-requires : tie.Need-longitudes-requires
 longitudes-requires c κs =
     let start = c .before .before .before .before in
-    (count-held (start .args .shape) (start .pre), longitudes-held (start .args .shape) (start .pre))
+    (count-held (start .args .shape) (start .pre), λ i h. shape-held (start .args .shape) (start .pre) (longitude (suc i)))
 
 confidence-requires : tie.Need-confidence-requires
-confidence-requires c κs = let start = c .before .before .before .before .before in confidence-held (start .args .shape) (start .pre)
+confidence-requires c κs = let start = c .before .before .before .before .before in shape-held (start .args .shape) (start .pre) confidence
 
 latitude-requires : tie.Need-latitude-requires
-latitude-requires c κs = let start = c .before .before .before .before .before .before in latitude-held (start .args .shape) (start .pre)
+latitude-requires c κs = let start = c .before .before .before .before .before .before in shape-held (start .args .shape) (start .pre) (latitude 0)
 
 longitude-requires : tie.Need-longitude-requires
-longitude-requires c κs = let start = c .before .before .before .before .before .before .before in longitude-held (start .args .shape) (start .pre)
+longitude-requires c κs = let start = c .before .before .before .before .before .before .before in shape-held (start .args .shape) (start .pre) (longitude 0)
 
 altitude-requires : tie.Need-altitude-requires
-altitude-requires c κs = let start = c .before .before .before .before .before .before .before .before in altitude-held (start .args .shape) (start .pre)
+altitude-requires c κs = let start = c .before .before .before .before .before .before .before .before in shape-held (start .args .shape) (start .pre) altitude
 
 uncertainty-requires : tie.Need-uncertainty-requires
-uncertainty-requires c κs = let start = c .before .before .before .before .before .before .before .before .before in uncertainty-held (start .args .shape) (start .pre)
+uncertainty-requires c κs = let start = c .before .before .before .before .before .before .before .before .before in shape-held (start .args .shape) (start .pre) uncertainty
 
 uncertainty-requires-2 : tie.Need-uncertainty-requires-2
-uncertainty-requires-2 c κs = let start = c .before .before .before .before .before .before .before .before .before .before in semi-major-held (start .args .shape) (start .pre)
+uncertainty-requires-2 c κs = let start = c .before .before .before .before .before .before .before .before .before .before in shape-held (start .args .shape) (start .pre) semiMajor
 
 uncertainty-requires-3 : tie.Need-uncertainty-requires-3
-uncertainty-requires-3 c κs = let start = c .before .before .before .before .before .before .before .before .before .before .before in semi-minor-held (start .args .shape) (start .pre)
+uncertainty-requires-3 c κs = let start = c .before .before .before .before .before .before .before .before .before .before .before in shape-held (start .args .shape) (start .pre) semiMinor
 
 orientation-requires : tie.Need-orientation-requires
-orientation-requires c κs = let start = c .before .before .before .before .before .before .before .before .before .before .before .before in orientation-held (start .args .shape) (start .pre)
+orientation-requires c κs = let start = c .before .before .before .before .before .before .before .before .before .before .before .before in shape-held (start .args .shape) (start .pre) orientation
 
 altitude-uncertainty-requires : tie.Need-altitude-uncertainty-requires
-altitude-uncertainty-requires c κs = let start = c .before .before .before .before .before .before .before .before .before .before .before .before .before in altitude-uncertainty-held (start .args .shape) (start .pre)
+altitude-uncertainty-requires c κs = let start = c .before .before .before .before .before .before .before .before .before .before .before .before .before in shape-held (start .args .shape) (start .pre) altitudeUncertainty
 
 reported-inner-radius-requires : tie.Need-reported-inner-radius-requires
 reported-inner-radius-requires c κs = tt
 
 offset-requires : tie.Need-offset-requires
-offset-requires c κs = let start = c .before .before .before .before .before .before .before .before .before .before .before .before .before .before .before in offset-held (start .args .shape) (start .pre)
+offset-requires c κs = let start = c .before .before .before .before .before .before .before .before .before .before .before .before .before .before .before in shape-held (start .args .shape) (start .pre) offset
 
 returns : tie.Need-returns
 returns c =

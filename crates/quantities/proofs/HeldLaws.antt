@@ -1,0 +1,136 @@
+-- The fields of a record that the writer takes hold its codes: one law over its places. Assumes nothing.
+use Prim.Native.Nat.{ℕ, zero, suc, _^_, _≤_, _<_}
+use mathlib.Core.Path.{_≡_, refl}
+use mathlib.Core.Bool.{Bool, true, false}
+use mathlib.Core.List.{List}
+use native.Mathlib.Omega.{arith}
+use lib.Dec.{ltb}
+use lib.IntN.{ℤ, pos, negsuc}
+use lib.Signed.{mag}
+use borrow.Author.Tests.{ltb-true, ltb-false}
+use Rattle.octets.specs.Codes.{complement}
+use Rattle.fields.specs.Quantities.{Held}
+use Rattle.layout.specs.declared.shapes.Shape.{Shape}
+use Rattle.layout.specs.declared.velocities.Velocity.{Velocity}
+use Rattle.layout.specs.Layout.{Field, Row, velocityRows}
+use Rattle.layout.specs.Layout as layout
+use Rattle.layout.specs.Rows.{widthOf, lengthOf}
+use Rattle.layout.specs.Demands.{Used, InFields, WriteAnswer}
+use Rattle.layout.specs.Shapes.{rowsOf, valueOf}
+use Rattle.layout.specs.Velocities.{velocityValueOf}
+use Rattle.trips.proofs.DemandLaws.{Sound, sound}
+use Rattle.trips.proofs.WidthLaws.{shapeWidest, velocityWidest, code-of, velocity-code-of}
+use Rattle.quantities.specs.Places.{
+  Place,
+  latitude,
+  longitude,
+  altitude,
+  uncertainty,
+  semiMajor,
+  semiMinor,
+  orientation,
+  altitudeUncertainty,
+  confidence,
+  innerRadius,
+  offset,
+  included,
+  bearing,
+  horizontalSpeed,
+  verticalSpeed,
+  speedUncertainty,
+  verticalUncertainty,
+  fieldOf,
+}
+use Rattle.quantities.specs.Shapes.{codeAt, TakesShape}
+use Rattle.quantities.specs.Velocities.{velocityCodeAt, TakesVelocity}
+
+sound-of : (rows : List Row) (value : Field → ℕ) → WriteAnswer rows value (lengthOf rows) 0 → Sound rows value
+sound-of rows value t = sound rows value (lengthOf rows) t .0
+
+-- a number that is below a bound where it is used, and has no bits where it isn't
+bounded : (rows : List Row) (value : Field → ℕ) (f : Field) (most : ℕ) → InFields rows value → 0 < most → (Used rows f → value f < most) → value f < most
+bounded rows value f most h some used = by (ltb 0 (widthOf rows f)) refl
+  where
+    by : (b : Bool) → ltb 0 (widthOf rows f) ≡ b → value f < most
+    by true e = used (ltb-true 0 (widthOf rows f) e)
+    by false e =
+        let z : widthOf rows f ≤ 0 = ltb-false 0 (widthOf rows f) e in
+        let w : widthOf rows f ≡ 0 = omega arith in
+        let l : value f < 2 ^ 0 = rw w at (h .each f) in
+        omega arith
+
+turn-held : (z : ℤ) → complement z < 16777216 → mag z < 8388608
+turn-held (pos n) h = by (ltb n 8388608) refl
+  where
+    by : (b : Bool) → ltb n 8388608 ≡ b → n < 8388608
+    by true e = ltb-true n 8388608 e
+    by false e = absurd (omega (arith, rw e at h))
+turn-held (negsuc n) h = by (ltb n 8388608) refl
+  where
+    by : (b : Bool) → ltb n 8388608 ≡ b → n < 8388608
+    by true e = ltb-true n 8388608 e
+    by false e = absurd (omega (arith, rw e at h))
+
+-- ---- shapes
+
+module _ (x : Shape) (t : TakesShape x) where
+  pub taken : Sound (rowsOf x) (valueOf x)
+  taken = sound-of (rowsOf x) (valueOf x) t
+
+  number : (f : Field) → valueOf x f < 2 ^ shapeWidest f
+  number = code-of (x .kind) (x .count) (valueOf x) (taken .fields)
+
+  below : (f : Field) (most : ℕ) → 0 < most → (Used (rowsOf x) f → valueOf x f < most) → valueOf x f < most
+  below f most = bounded (rowsOf x) (valueOf x) f most (taken .fields)
+
+  pub shape-held : (p : Place) → Held (fieldOf p) (codeAt x p)
+  shape-held (latitude zero) = number (layout.latitude 0)
+  shape-held (latitude (suc i)) = number (layout.latitude (suc i))
+  shape-held (longitude zero) = turn-held (x .longitude .0) (number (layout.longitude 0))
+  shape-held (longitude (suc i)) = turn-held (codeAt x (longitude (suc i)) .0) (number (layout.longitude (suc i)))
+  shape-held altitude = number layout.altitude
+  shape-held uncertainty = number layout.uncertainty
+  shape-held semiMajor = number layout.semiMajor
+  shape-held semiMinor = number layout.semiMinor
+  shape-held orientation = below layout.orientation 180 (omega arith) (taken .angles .orientations)
+  shape-held altitudeUncertainty = number layout.altitudeUncertainty
+  shape-held confidence = below layout.confidence 101 (omega arith) (taken .sure .confidences)
+  shape-held innerRadius = number layout.innerRadius
+  shape-held offset = below layout.offset 180 (omega arith) (taken .angles .offsets)
+  shape-held included = below layout.included 180 (omega arith) (taken .angles .includeds)
+  shape-held bearing = omega arith
+  shape-held horizontalSpeed = omega arith
+  shape-held verticalSpeed = omega arith
+  shape-held speedUncertainty = omega arith
+  shape-held verticalUncertainty = omega arith
+
+  pub count-held : x .count ≤ 15
+  count-held = let l : x .count < 16 = below layout.count 16 (omega arith) (λ u. let m = taken .counted .most u in omega arith) in omega arith
+
+-- ---- velocities
+
+module _ (x : Velocity) (t : TakesVelocity x) where
+  pub motion-taken : Sound (velocityRows (x .kind)) (velocityValueOf x)
+  motion-taken = sound-of (velocityRows (x .kind)) (velocityValueOf x) t
+
+  motion-number : (f : Field) → velocityValueOf x f < 2 ^ velocityWidest f
+  motion-number = velocity-code-of (x .kind) (velocityValueOf x) (motion-taken .fields)
+
+  pub velocity-held : (p : Place) → Held (fieldOf p) (velocityCodeAt x p)
+  velocity-held bearing = bounded (velocityRows (x .kind)) (velocityValueOf x) layout.bearing 360 (motion-taken .fields) (omega arith) (motion-taken .angles .bearings)
+  velocity-held horizontalSpeed = motion-number layout.horizontalSpeed
+  velocity-held verticalSpeed = motion-number layout.verticalSpeed
+  velocity-held speedUncertainty = motion-number layout.speedUncertainty
+  velocity-held verticalUncertainty = motion-number layout.verticalUncertainty
+  velocity-held (latitude i) = omega arith
+  velocity-held (longitude i) = omega arith
+  velocity-held altitude = omega arith
+  velocity-held uncertainty = omega arith
+  velocity-held semiMajor = omega arith
+  velocity-held semiMinor = omega arith
+  velocity-held orientation = omega arith
+  velocity-held altitudeUncertainty = omega arith
+  velocity-held confidence = omega arith
+  velocity-held innerRadius = omega arith
+  velocity-held offset = omega arith
+  velocity-held included = omega arith

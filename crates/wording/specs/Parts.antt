@@ -1,0 +1,66 @@
+-- The parts of a record's text, as they are put. Assumes nothing.
+use mathlib.Core.List.{List, [], _∷_, _++_}
+use Prim.Native.Nat.{ℕ, zero, suc, _<_}
+use lib.ListN.{getD}
+use lib.Signed.{mag}
+use Rattle.ground.specs.declared.codes.LatitudeCode.{LatitudeCode}
+use Rattle.ground.specs.declared.codes.LongitudeCode.{LongitudeCode}
+use Rattle.ground.specs.declared.codes.UncertaintyCode.{UncertaintyCode}
+use Rattle.ground.specs.declared.codes.OrientationCode.{OrientationCode}
+use Rattle.fields.specs.Fields.{CodeOf}
+use Rattle.fields.specs.Fields as field
+use Rattle.fields.specs.Quantities.{quantityOf}
+use Rattle.text.specs.Text.{decimal}
+use Rattle.layout.specs.declared.shapes.Kind.{Kind}
+use Rattle.layout.specs.declared.shapes.Kind.the-variants.{Nothing, Point, Circle, Ellipse, Polygon, AltitudePoint, AltitudeEllipsoid, Arc}
+use Rattle.layout.specs.declared.shapes.Shape.{Shape}
+use Rattle.layout.specs.declared.velocities.VelocityKind.{VelocityKind}
+use Rattle.layout.specs.declared.velocities.VelocityKind.the-variants as velocity
+use Rattle.layout.specs.declared.velocities.Velocity.{Velocity}
+use Rattle.layout.specs.Shapes.{zeroLatitude, zeroLongitude}
+use Rattle.wording.specs.Wording.{quantityText}
+
+-- "0 " and the type
+unfoldable pub headText : ℕ → List ℕ
+headText type = 48 ∷ 32 ∷ decimal type
+
+-- what is reported of a code
+unfoldable pub codeText : (f : field.Field) → CodeOf f → List ℕ
+codeText f c = quantityText f (quantityOf f c)
+
+abbrev pub positionText : LatitudeCode → LongitudeCode → List ℕ
+positionText c d = codeText field.latitude c ++ codeText field.longitude d
+
+abbrev pub axesText : UncertaintyCode → UncertaintyCode → OrientationCode → List ℕ
+axesText major minor angle = codeText field.uncertainty major ++ codeText field.uncertainty minor ++ codeText field.orientation angle
+
+-- the first n points
+abbrev pub pointsText : List LatitudeCode → List LongitudeCode → ℕ → List ℕ
+pointsText cs ds zero = []
+pointsText cs ds (suc n) = pointsText cs ds n ++ positionText (getD cs n zeroLatitude) (getD ds n zeroLongitude)
+
+-- what a shape's kind has after the position
+abbrev pub restText : Kind → Shape → List ℕ
+restText Nothing x = []
+restText Point x = []
+restText Circle x = codeText field.uncertainty (x .uncertainty)
+restText Ellipse x = axesText (x .«semi_major») (x .«semi_minor») (x .orientation) ++ codeText field.confidence (x .confidence)
+restText Polygon x = []
+restText AltitudePoint x = codeText field.altitude (x .altitude)
+restText AltitudeEllipsoid x =
+    codeText field.altitude (x .altitude) ++ axesText (x .«semi_major») (x .«semi_minor») (x .orientation) ++ codeText field.altitudeUncertainty (x .«altitude_uncertainty») ++ codeText field.confidence (x .confidence)
+restText Arc x =
+    codeText field.innerRadius (x .«inner_radius») ++ codeText field.uncertainty (x .uncertainty) ++ codeText field.offset (x .offset) ++ codeText field.included (x .included) ++ codeText field.confidence (x .confidence)
+
+-- what a velocity's kind has after the bearing and the horizontal speed
+abbrev pub motionRest : VelocityKind → Velocity → List ℕ
+motionRest velocity.Nothing x = []
+motionRest velocity.Horizontal x = []
+motionRest velocity.HorizontalVertical x = codeText field.verticalSpeed (x .«vertical_speed»)
+motionRest velocity.HorizontalUncertain x = codeText field.uncertaintySpeed (x .uncertainty)
+motionRest velocity.HorizontalVerticalUncertain x =
+    codeText field.verticalSpeed (x .«vertical_speed») ++ codeText field.uncertaintySpeed (x .uncertainty) ++ codeText field.uncertaintySpeed (x .«vertical_uncertainty»)
+
+-- codes of points that their fields hold
+abbrev pub PointsHeld : List LatitudeCode → List LongitudeCode → Type 0
+PointsHeld cs ds = (i : ℕ) → (getD cs i zeroLatitude .1 < 8388608) × (mag (getD ds i zeroLongitude .0) < 8388608)

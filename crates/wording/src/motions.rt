@@ -1,0 +1,64 @@
+// The text of a velocity that the writer takes.
+use crate::numbers;
+use crate::shapes;
+use ground::Whole;
+use layout::Velocity;
+use layout::VelocityKind;
+ghost use mathlib.Core.Path.{_≡_};
+ghost use Prim.Native.Nat.{_+_, _≤_};
+ghost use lib.ListN.{length};
+ghost use Rattle.text.specs.Text.{PutsWithin};
+ghost use Rattle.layout.specs.Layout.{velocityTypeOf};
+ghost use Rattle.quantities.specs.Velocities.{TakesVelocity};
+ghost use Rattle.wording.specs.Wording.{velocityText};
+ghost use Rattle.wording.specs.Parts.{motionRest};
+
+pub fn put(out: &mut [u8], at: usize, velocity: Velocity) -> usize
+    requires { ⌜ at + 680 ≤ length (now out) ⌝ }
+    requires { ⌜ TakesVelocity velocity ⌝ }
+    ensures { λ r. ⌜ PutsWithin 680 (now (out .entry)) at (velocityText velocity) (now (out .exit)) r ⌝ }
+{
+    let kind = velocity.kind;
+    let a = shapes::put_head(out, at, type_number(kind));
+    let b = numbers::put_natural(out, a, spoken::bearing(velocity.bearing).0);
+    let c = numbers::put_natural(
+        out,
+        b,
+        speeds::reported_horizontal_speed(velocity.horizontal_speed).0,
+    );
+    put_rest(out, c, velocity)
+}
+
+fn type_number(kind: VelocityKind) -> u8
+    ensures { λ r. ⌜ r ≡ velocityTypeOf kind ⌝ }
+{
+    match kind {
+        VelocityKind::Nothing => 0,
+        VelocityKind::Horizontal => 0,
+        VelocityKind::HorizontalVertical => 1,
+        VelocityKind::HorizontalUncertain => 2,
+        VelocityKind::HorizontalVerticalUncertain => 3,
+    }
+}
+
+// Puts what the kind has after the bearing and the horizontal speed.
+fn put_rest(out: &mut [u8], at: usize, velocity: Velocity) -> usize
+    requires { ⌜ at + 63 ≤ length (now out) ⌝ }
+    ensures { λ r. ⌜ PutsWithin 63 (now (out .entry)) at (motionRest (velocity .kind) velocity) (now (out .exit)) r ⌝ }
+{
+    let kind = velocity.kind;
+    let vertical = Whole(speeds::reported_vertical_speed(velocity.vertical_speed).0 as i64);
+    let uncertainty = speeds::reported_uncertainty_speed(velocity.uncertainty);
+    match kind {
+        VelocityKind::Nothing => at,
+        VelocityKind::Horizontal => at,
+        VelocityKind::HorizontalVertical => numbers::put_signed(out, at, vertical),
+        VelocityKind::HorizontalUncertain => numbers::put_uncertainty(out, at, uncertainty),
+        VelocityKind::HorizontalVerticalUncertain => {
+            let a = numbers::put_signed(out, at, vertical);
+            let b = numbers::put_uncertainty(out, a, uncertainty);
+            let other = speeds::reported_uncertainty_speed(velocity.vertical_uncertainty);
+            numbers::put_uncertainty(out, b, other)
+        }
+    }
+}
