@@ -1,5 +1,6 @@
 -- What an answer says: document 01's number, and on 0 the values. Assumes nothing.
 use mathlib.Core.Path.{_≡_}
+use mathlib.Core.Bool.{Bool, true, false}
 use mathlib.Core.List.{[], _∷_}
 use Prim.Native.Nat.{ℕ, _-_}
 use lib.ListN.{getD}
@@ -58,6 +59,11 @@ pub data Unless (demand : Type 0) (n : ℕ) (others : ℕ → Type 0) (m : ℕ) 
 -- no demand is left: 0
 abbrev pub Else0 : ℕ → Type 0
 Else0 m = m ≡ 0
+
+-- what the answer of a test says of its question
+abbrev pub Decides : Bool → Type 0 → Type 0
+Decides true P = P
+Decides false P = P → ⊥
 
 -- 0 and the value, or the number of a refusal and nothing else
 pub data Said (A : Type 0) : Type 0 where

@@ -7,10 +7,10 @@ use layout::Velocity;
 use layout::VelocityKind;
 ghost use Prim.Native.Nat.{_<_};
 ghost use lib.ListN.{length};
-ghost use Rattle.ground.specs.Answers.{outcomeNumber};
+ghost use Rattle.ground.specs.Answers.{outcomeNumber, Decides};
 ghost use Rattle.layout.specs.Demands.{Listed};
 ghost use Rattle.velocities.specs.Reading.{KindAnswer};
-ghost use Rattle.velocities.specs.Writing.{rowsOf, VelocityAnswer, VelocityInFields, Decides, AreZero};
+ghost use Rattle.velocities.specs.Writing.{rowsOf, VelocityAnswer, VelocityInFields, AreZero};
 
 pub fn of_message(s: &[u8], kind: VelocityKind) -> Outcome
     requires { ⌜ 0 < length (now s) ⌝ }

@@ -2,7 +2,7 @@
 -- Assumes nothing.
 use Prim.Native.Nat.{ℕ, zero, suc, _+_, _*_, _/_, _^_, _≤_, _<_}
 use mathlib.Core.Path.{_≡_, refl, sym, ap, subst, _∙_}
-use mathlib.Core.Bool.{Bool, true, false, cond, not, _&&_}
+use mathlib.Core.Bool.{Bool, true, false, cond, _&&_}
 use mathlib.Core.List.{List, [], _∷_, map}
 use native.Mathlib.Omega.{arith}
 use native.Mathlib.Nat.{div-eq-of-lt, div-lt-iff-lt-mul}
@@ -49,20 +49,7 @@ use Rattle.layout.specs.Shapes.{rowsOf, valueOf, zeroLatitude, zeroLongitude}
 use Rattle.layout.proofs.TidyLaws.{both}
 use Rattle.layout.proofs.PolygonLaws.{point-row}
 use Rattle.layout.proofs.KindLaws.{pointsOf, point-width, no-point-width, fixed-width}
-use Rattle.writing.specs.Limits.{Decides, ShapeInFields, fixedFields, numbersOf, widthsOf, Within, PointWithin, PointsWithin}
-
--- what a test `if !decides(..)` shows where it is passed, and where it is not
-pub shown : {P : Type 0} (b : Bool) → not b ≡ false → Decides b P → P
-shown true e h = h
-shown false e h = let z : _≡_ {A = ℕ} 0 1 = cc in absurd (omega arith)
-
-pub refuted : {P : Type 0} (b : Bool) → not b ≡ true → Decides b P → P → ⊥
-refuted true e h = let z : _≡_ {A = ℕ} 0 1 = cc in absurd (omega arith)
-refuted false e h = h
-
-pub decided : {P Q : Type 0} (b : Bool) → (P → Q) → (Q → P) → Decides b P → Decides b Q
-decided true f g h = f h
-decided false f g h = λ q. h (g q)
+use Rattle.writing.specs.Limits.{ShapeInFields, fixedFields, numbersOf, widthsOf, Within, PointWithin, PointsWithin}
 
 -- ---- one number, shifted by its width
 

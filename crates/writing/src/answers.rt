@@ -33,11 +33,11 @@ fn codes(shape: Shape) -> Outcome
         Kind::Nothing => Outcome::Refused(Refusal::UnknownType),
         Kind::Point => Outcome::Done,
         Kind::Circle => Outcome::Done,
-        Kind::Ellipse => layout::codes_outcome(orientation, orientation, confidence),
+        Kind::Ellipse => layout::codes_outcome(orientation, 0, 0, confidence),
         Kind::Polygon => count(shape.count),
         Kind::AltitudePoint => Outcome::Done,
-        Kind::AltitudeEllipsoid => layout::codes_outcome(orientation, orientation, confidence),
-        Kind::Arc => layout::codes_outcome(shape.offset.0, shape.included.0, confidence),
+        Kind::AltitudeEllipsoid => layout::codes_outcome(orientation, 0, 0, confidence),
+        Kind::Arc => layout::codes_outcome(0, shape.offset.0, shape.included.0, confidence),
     }
 }
 
