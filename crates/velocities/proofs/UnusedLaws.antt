@@ -55,7 +55,7 @@ pub record Typed (x : Velocity) : Type 0 where
   pub uncertainties : x .uncertainty .0 < 256
   pub verticalUncertainties : x .«vertical_uncertainty» .0 < 256
 
-bit-lt : (b : Bool) → bitOf b < 2
+pub bit-lt : (b : Bool) → bitOf b < 2
 bit-lt true = omega arith
 bit-lt false = omega arith
 

@@ -13,20 +13,25 @@ use layout::Written;
 ghost use Rattle.layout.specs.Velocities.{ReadsVelocity, WritesVelocity};
 ghost use Rattle.velocities.specs.Reading.{RefusedWith};
 
-// The record in a message, or the refusal.
+// The record in a message, or the refusal. Each octet is looked at once, and 5 is judged on the record.
 pub fn read_velocity(s: &[u8]) -> VelocityRead
     ensures { λ r. ⌜ ReadsVelocity (now (s .entry)) r ⌝ }
 {
     if s.len() == 0 {
         return refused(Refusal::NoOctets);
     }
-    let kind = kinds::kind_at(s);
-    match answers::of_message(s, kind) {
-        Outcome::Done => VelocityRead {
-            outcome: Outcome::Done,
-            velocity: records::velocity(s, kind),
-        },
-        Outcome::Refused(why) => refused(why),
+    let first = octets::octet(s, 0);
+    let kind = kinds::kind_of(first);
+    if let Outcome::Refused(why) = answers::of_message(s.len(), kind) {
+        return refused(why);
+    }
+    let velocity = records::velocity(s, kind, first);
+    if 360 <= velocity.bearing.0 {
+        return refused(Refusal::AngleCode);
+    }
+    VelocityRead {
+        outcome: Outcome::Done,
+        velocity,
     }
 }
 
