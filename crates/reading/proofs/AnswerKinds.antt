@@ -1,6 +1,6 @@
 -- The answers that the reader's parts give to a kind, a count and a length are those of the kind's rows. Assumes nothing.
 use Prim.Native.Nat.{ℕ, _+_, _*_, _<_, _≤_}
-use mathlib.Core.Path.{_≡_, refl, sym, subst}
+use mathlib.Core.Path.{_≡_, sym, subst}
 use native.Mathlib.Omega.{arith}
 use Rattle.ground.specs.Answers.{unmet, met}
 use Rattle.layout.specs.declared.shapes.Kind.{Kind}

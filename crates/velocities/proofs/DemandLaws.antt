@@ -1,16 +1,10 @@
 -- What is demanded of a velocity's numbers: of its codes the bearing's alone. Assumes nothing.
-use Prim.Native.Nat.{ℕ, _<_, _≤_}
-use mathlib.Core.Path.{_≡_, refl}
-use mathlib.Core.List.{List}
+use Prim.Native.Nat.{ℕ, _<_}
 use native.Mathlib.Omega.{arith}
-use lib.ListN.{length}
-use Rattle.ground.specs.Answers.{Unless, Else0, unmet, met}
-use Rattle.octets.specs.Bits.{bits}
 use Rattle.layout.specs.declared.velocities.VelocityKind.{VelocityKind}
 use Rattle.layout.specs.declared.velocities.VelocityKind.the-variants.{Nothing, Horizontal, HorizontalVertical, HorizontalUncertain, HorizontalVerticalUncertain}
 use Rattle.layout.specs.Layout.{Field, bearing, velocityRows}
-use Rattle.layout.specs.Rows.{read, lengthOf}
-use Rattle.layout.specs.Demands.{Listed, CountSound, AnglesSound, ConfidenceSound, ReadAnswer}
+use Rattle.layout.specs.Demands.{Listed, CountSound, AnglesSound, ConfidenceSound}
 
 -- a field that is not used
 no : {P : Type 0} → 0 < 0 → P

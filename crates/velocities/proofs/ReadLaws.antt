@@ -15,7 +15,7 @@ use Rattle.layout.specs.declared.velocities.VelocityKind.the-variants.{Nothing}
 use Rattle.layout.specs.declared.velocities.Velocity.{Velocity}
 use Rattle.layout.specs.declared.velocities.VelocityRead.{VelocityRead}
 use Rattle.layout.specs.Layout.{bearing, velocityRows}
-use Rattle.layout.specs.Rows.{read, lengthOf}
+use Rattle.layout.specs.Rows.{read}
 use Rattle.layout.specs.Demands.{Listed, ReadAnswer}
 use Rattle.layout.specs.Velocities.{velocityKindIn, velocityRowsIn, velocityIn, blankVelocity, ReadsVelocity}
 use Rattle.velocities.specs.Reading.{FormAnswer, OfLength, recordOf, RefusedWith}

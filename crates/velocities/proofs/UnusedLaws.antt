@@ -1,6 +1,6 @@
 -- A record's codes are in their fields just where those that its kind has no field for are zero: the others' types are their
 -- fields, but for the bearing's, which is demanded before. Assumes nothing.
-use Prim.Native.Nat.{ℕ, _^_, _<_}
+use Prim.Native.Nat.{_^_, _<_}
 use mathlib.Core.Path.{_≡_, refl, ap, subst}
 use mathlib.Core.Bool.{Bool, true, false}
 use mathlib.Core.List.{List}

@@ -1,5 +1,5 @@
 -- The answer to a record's codes, for each kind, and the whole answer from its two parts. Assumes nothing.
-use Prim.Native.Nat.{ℕ, _+_, _*_, _≤_, _<_}
+use Prim.Native.Nat.{ℕ, _≤_, _<_}
 use mathlib.Core.Path.{_≡_, refl, sym, subst}
 use mathlib.Core.List.{List}
 use native.Mathlib.Omega.{arith}
@@ -10,8 +10,8 @@ use Rattle.layout.specs.declared.shapes.Kind.{Kind}
 use Rattle.layout.specs.declared.shapes.Kind.the-variants.{Nothing, Point, Circle, Ellipse, Polygon, AltitudePoint, AltitudeEllipsoid, Arc}
 use Rattle.layout.specs.declared.shapes.Shape.{Shape}
 use Rattle.layout.specs.Layout.{Field, Row, count, orientation, offset, included, bearing, confidence, shapeRows}
-use Rattle.layout.specs.Rows.{tag, widthOf, lengthOf}
-use Rattle.layout.specs.Demands.{Listed, CountSound, AnglesSound, ConfidenceSound, InFields, WriteAnswer, CodesAnswer}
+use Rattle.layout.specs.Rows.{tag, widthOf}
+use Rattle.layout.specs.Demands.{Listed, CountSound, AnglesSound, ConfidenceSound, WriteAnswer, CodesAnswer}
 use Rattle.layout.specs.Shapes.{rowsOf, valueOf}
 use Rattle.layout.proofs.PolygonLaws.{polygon-length, none-found}
 use Rattle.writing.specs.Writing.{CodesAnswerOf, RoomAnswerOf, CountAnswer}

@@ -2,9 +2,8 @@
 use ground::LatitudeCode;
 use ground::LongitudeCode;
 ghost use mathlib.Core.Path.{_≡_};
-ghost use mathlib.Core.List.{_++_};
 ghost use Prim.Native.Nat.{_+_, _*_, _<_, _≤_};
-ghost use lib.ListN.{length, take, drop};
+ghost use lib.ListN.{length};
 ghost use lib.Seq.{sets};
 ghost use Rattle.ground.specs.Answers.{Decides};
 ghost use Rattle.writing.specs.Limits.{PointWithin, PointsWithin};

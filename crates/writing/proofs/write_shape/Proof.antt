@@ -1,6 +1,5 @@
 -- The answer is what `outcome` says, and the message is put where it is 0.
 use mathlib.Core.Path.{refl}
-use borrow.Author.Needs.{needs}
 use Rattle.writing.proofs.DemandLaws.{storable}
 use Rattle.writing.proofs.write_shape.Statement.{statement}
 use Rattle.writing.proofs.write_shape.Tie as tie

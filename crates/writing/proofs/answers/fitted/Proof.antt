@@ -1,6 +1,5 @@
 -- Each test is one demand.
 use mathlib.Core.Path.{refl}
-use borrow.Author.Needs.{needs}
 use native.Mathlib.Omega.{arith}
 use Rattle.ground.specs.Answers.{unmet, met}
 use Rattle.ground.proofs.AnswerLaws.{shown, refuted}

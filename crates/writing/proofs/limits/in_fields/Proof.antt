@@ -1,4 +1,3 @@
-use borrow.Author.Needs.{needs}
 use Rattle.ground.proofs.AnswerLaws.{shown, refuted, decided}
 use Rattle.writing.proofs.LimitLaws.{narrow, fixed-within, points-within, in-fields}
 use Rattle.writing.proofs.limits.in_fields.Statement.{statement}
