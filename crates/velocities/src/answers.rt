@@ -4,8 +4,11 @@ use ground::Outcome;
 use ground::Refusal;
 use layout::Velocity;
 use layout::VelocityKind;
+ghost use mathlib.Core.Path.{_≡_};
 ghost use Prim.Native.Nat.{_<_};
-ghost use Rattle.ground.specs.Answers.{outcomeNumber, Decides};
+ghost use Rattle.ground.specs.Answers.{outcomeNumber, handed, Decides};
+ghost use Rattle.layout.specs.Layout.{velocityRows};
+ghost use Rattle.layout.specs.Rows.{lengthOf};
 ghost use Rattle.layout.specs.Demands.{Listed};
 ghost use Rattle.velocities.specs.Reading.{FormAnswer};
 ghost use Rattle.velocities.specs.Writing.{rowsOf, VelocityAnswer, VelocityInFields, AreZero};
@@ -43,6 +46,16 @@ pub fn of_record(velocity: Velocity, room: usize) -> Outcome
         return Outcome::Refused(Refusal::BufferTooShort);
     }
     Outcome::Done
+}
+
+// How many octets are written: none on a refusal.
+pub fn written(outcome: Outcome, kind: VelocityKind) -> usize
+    ensures { λ r. ⌜ r ≡ handed outcome (lengthOf (velocityRows kind)) 0 ⌝ }
+{
+    match outcome {
+        Outcome::Done => kinds::length_of(kind),
+        Outcome::Refused(_) => 0,
+    }
 }
 
 // Whether what the kind has no field for is zero. Its own fields hold every code of their types, and every bearing below 360.

@@ -50,19 +50,11 @@ pub fn write_velocity(out: &mut [u8], velocity: Velocity) -> Written
     ensures { λ r. ⌜ WritesVelocity velocity (now (out .entry)) (now (out .exit)) r ⌝ }
 {
     let kind = velocity.kind;
-    let length = kinds::length_of(kind);
     let room = out.len();
-    match answers::of_record(velocity, room) {
-        Outcome::Done => {
-            messages::put(out, velocity);
-            Written {
-                outcome: Outcome::Done,
-                length,
-            }
-        }
-        Outcome::Refused(why) => Written {
-            outcome: Outcome::Refused(why),
-            length: 0,
-        },
+    let outcome = answers::of_record(velocity, room);
+    let length = answers::written(outcome, kind);
+    if 0 < length {
+        messages::put(out, velocity);
     }
+    Written { outcome, length }
 }

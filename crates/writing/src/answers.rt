@@ -6,7 +6,7 @@ use layout::Kind;
 use layout::Shape;
 ghost use mathlib.Core.Path.{_≡_};
 ghost use Prim.Native.Nat.{_+_, _*_};
-ghost use Rattle.ground.specs.Answers.{outcomeNumber};
+ghost use Rattle.ground.specs.Answers.{outcomeNumber, handed};
 ghost use Rattle.layout.specs.Shapes.{rowsOf, valueOf};
 ghost use Rattle.layout.specs.Rows.{lengthOf};
 ghost use Rattle.layout.specs.Layout.{shapeRows};
@@ -68,8 +68,18 @@ fn fitted(shape: Shape, room: usize) -> Outcome
     Outcome::Done
 }
 
+// How many octets are written: none on a refusal.
+pub fn written(outcome: Outcome, kind: Kind, n: u8) -> usize
+    ensures { λ r. ⌜ r ≡ handed outcome (lengthOf (shapeRows kind n)) 0 ⌝ }
+{
+    match outcome {
+        Outcome::Done => length_of(kind, n),
+        Outcome::Refused(_) => 0,
+    }
+}
+
 // The length of a kind's message; n is a polygon's count.
-pub fn length_of(kind: Kind, n: u8) -> usize
+fn length_of(kind: Kind, n: u8) -> usize
     ensures { λ r. ⌜ r ≡ lengthOf (shapeRows kind n) ⌝ }
 {
     match kind {
