@@ -46,7 +46,8 @@ fn motion(s: &[u8], kind: VelocityKind, first: u8) -> Velocity
     let mut velocity = layout::blank_velocity(kind);
     let high = (first % 2) as u16;
     let low = octets::octet(s, 1) as u16;
-    let bearing = BearingCode(high * 256 + low);
+    let code = high * 256 + low;
+    let bearing = BearingCode(code);
     let horizontal_speed = HorizontalSpeedCode(octets::word(s, 2));
     velocity.bearing = bearing;
     velocity.horizontal_speed = horizontal_speed;

@@ -53,7 +53,7 @@ refused-requires-3 : tie.Need-refused-requires-3
 refused-requires-3 c κs = search needs
 
 returns-3 : tie.Need-returns-3
-returns-3 c = bearing-refused _ _ (some (c .before .before .before .before .before .before .before)) (kind (c .before .before .before .before .before .before .before)) _ (c .before .before .before .before .before .before .of-message .ensures) _ (c .before .before .before .before .enum-told .given .1) (c .before .before .before .velocity .ensures) _ (c .before .if2 .taken) (c .refused3 .ensures)
+returns-3 c = bearing-refused _ _ (some (c .before .before .before .before .before .before .before)) (kind (c .before .before .before .before .before .before .before)) _ (c .before .before .before .before .before .before .of-message .ensures) _ (c .before .before .before .before .enum-told .given .1) (c .before .before .before .velocity .ensures) _ (omega (arith, c .before .if2 .taken)) (c .refused3 .ensures)
 
 returns-4 : tie.Need-returns-4
 returns-4 c = done-read _ _ (some (c .before .before .before .before .before .before)) (kind (c .before .before .before .before .before .before)) _ (c .before .before .before .before .before .of-message .ensures) _ (c .before .before .before .enum-told .given .1) (c .before .before .velocity .ensures) (omega (arith, c .if2 .left))

@@ -16,11 +16,11 @@ octet-requires c κs = search needs
 cast-low : tie.Need-cast-low
 cast-low c = search needs
 
-mul-t10 : tie.Need-mul-t10
-mul-t10 c = search needs
+mul-code : tie.Need-mul-code
+mul-code c = search needs
 
-add-t11 : tie.Need-add-t11
-add-t11 c = search needs
+add-code : tie.Need-add-code
+add-code c = search needs
 
 word-requires : tie.Need-word-requires
 word-requires c κs = search needs
@@ -38,7 +38,7 @@ motion-spec =
     cast-high
     octet-requires
     cast-low
-    mul-t10
-    add-t11
+    mul-code
+    add-code
     word-requires
     returns)
