@@ -24,7 +24,7 @@ pub fn outcome(length: usize, kind: Kind, n: u8) -> Outcome
     }
 }
 
-// A kind of one length.
+// 3, of a kind whose messages all have one length.
 fn of_length(length: usize, whole: usize) -> Outcome
     ensures { λ r. ⌜ LengthAnswer whole length (outcomeNumber r) ⌝ }
 {
@@ -34,6 +34,7 @@ fn of_length(length: usize, whole: usize) -> Outcome
     Outcome::Refused(Refusal::WrongLength)
 }
 
+// 4 and 3. Four bits hold no count above 15.
 fn polygon(length: usize, n: u8) -> Outcome
     requires { ⌜ n < 16 ⌝ }
     ensures { λ r. ⌜ FormAnswer Polygon n length (outcomeNumber r) ⌝ }
