@@ -1,8 +1,10 @@
--- One answer: what a promise of the shape `Answer` leaves open. Assumes nothing.
+-- One answer: what a promise of the shape `Answer` leaves open; demands that are looked at in order; what a test decides.
+-- Assumes nothing.
 use mathlib.Core.Path.{_≡_, refl, sym, ap, _∙_}
+use mathlib.Core.Bool.{Bool, true, false, not}
 use Prim.Native.Nat.{ℕ}
 use native.Mathlib.Omega.{arith}
-use Rattle.ground.specs.Answers.{numberOf, refusalOf, outcomeNumber, Unless, unmet, met, Said, done, refused, Answer}
+use Rattle.ground.specs.Answers.{numberOf, refusalOf, outcomeNumber, Unless, unmet, met, Decides, Said, done, refused, Answer}
 use Rattle.ground.specs.declared.refusals.Outcome.{Outcome}
 use Rattle.ground.specs.declared.refusals.Outcome.the-variants as outcome
 use Rattle.ground.specs.declared.refusals.Refusal.{Refusal}
@@ -37,7 +39,7 @@ refusal-back FrameBroken = refl
 pub told-by : {E S : Type 0} (said : E → S) (back : S → E) → ((r : E) → back (said r) ≡ r) → (a b : E) → said a ≡ said b → a ≡ b
 told-by said back same a b e = sym (same a) ∙ ap back e ∙ same b
 
-not-0 : (why : Refusal) → numberOf why ≡ 0 → ⊥
+pub not-0 : (why : Refusal) → numberOf why ≡ 0 → ⊥
 not-0 NoOctets e = absurd (omega arith)
 not-0 UnknownType e = absurd (omega arith)
 not-0 WrongLength e = absurd (omega arith)
@@ -69,3 +71,22 @@ module _ (demand : Type 0) (n : ℕ) (others : ℕ → Type 0) where
   pub when-done : (n ≡ 0 → ⊥) → Unless demand n others 0 → demand × others 0
   when-done z (unmet p e) = absurd (z (sym e))
   when-done z (met p e) = (p, e)
+
+-- a demand in other words, and other demands after it
+module _ {P Q : Type 0} {n : ℕ} {A B : ℕ → Type 0} {m : ℕ} (to : P → Q) (from : Q → P) (others : A m → B m) where
+  pub unless-as : Unless P n A m → Unless Q n B m
+  unless-as (unmet p e) = unmet (λ q. p (from q)) e
+  unless-as (met p e) = met (to p) (others e)
+
+-- what a test `if !decides(..)` shows where it is passed, and where it is not
+pub shown : {P : Type 0} (b : Bool) → not b ≡ false → Decides b P → P
+shown true e h = h
+shown false e h = let z : _≡_ {A = ℕ} 0 1 = cc in absurd (omega arith)
+
+pub refuted : {P : Type 0} (b : Bool) → not b ≡ true → Decides b P → P → ⊥
+refuted true e h = let z : _≡_ {A = ℕ} 0 1 = cc in absurd (omega arith)
+refuted false e h = h
+
+pub decided : {P Q : Type 0} (b : Bool) → (P → Q) → (Q → P) → Decides b P → Decides b Q
+decided true f g d = f d
+decided false f g d = λ q. d (g q)

@@ -60,6 +60,11 @@ pub data Unless (demand : Type 0) (n : ℕ) (others : ℕ → Type 0) (m : ℕ) 
 abbrev pub Else0 : ℕ → Type 0
 Else0 m = m ≡ 0
 
+-- what the answer of a test says of its question
+abbrev pub Decides : Bool → Type 0 → Type 0
+Decides true P = P
+Decides false P = P → ⊥
+
 -- 0 and the value, or the number of a refusal and nothing else
 pub data Said (A : Type 0) : Type 0 where
   done : A → Said A
@@ -78,8 +83,3 @@ Always right = Answer right 0 ⊥
 abbrev pub tells : {A : Type 0} → (A → Told) → Said A → Told
 tells numbers (done a) = numbers a
 tells numbers (refused n) = Refused (refusalOf n)
-
--- the promise of a test: true where P holds, false where it doesn't
-abbrev pub Decides : Bool → Type 0 → Type 0
-Decides true P = P
-Decides false P = P → ⊥

@@ -5,3 +5,4 @@ pub mod PolygonLaws
 pub mod KindLaws
 pub mod MessageLaws
 pub mod VelocityMessageLaws
+pub mod WriteLaws

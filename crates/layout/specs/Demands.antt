@@ -56,9 +56,10 @@ WriteAnswer rows value room =
     (Unless (InFields rows value) 7
     (Unless (lengthOf rows ≤ room) 10 Else0)))))
 
--- the demands 5 and 6 on two angle codes and a confidence code
-abbrev pub CodesAnswer : ℕ → ℕ → ℕ → ℕ → Type 0
-CodesAnswer one other third = Unless ((one < 180) × (other < 180)) 5 (Unless (third < 101) 6 Else0)
+-- the demands 5 and 6 on a shape's codes; what its type doesn't use is 0
+abbrev pub CodesAnswer : ℕ → ℕ → ℕ → ℕ → ℕ → Type 0
+CodesAnswer orientation′ offset′ included′ confidence′ =
+    Unless ((orientation′ < 180) × (offset′ < 180) × (included′ < 180)) 5 (Unless (confidence′ < 101) 6 Else0)
 
 -- What writing leaves: on 0 the message in the first octets and the others as they were; on a refusal the buffer as it was.
 pub record Writes (rows : List Row) (value : Field → ℕ) (before after : List ℕ) (r : Written) : Type 0 where

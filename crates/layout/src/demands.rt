@@ -4,14 +4,17 @@ use ground::Refusal;
 ghost use Rattle.ground.specs.Answers.{outcomeNumber};
 ghost use Rattle.layout.specs.Demands.{CodesAnswer};
 
-// Whether two angle codes and a confidence code are such as a message may have. Where there is one angle it is given twice.
-pub fn codes_outcome(angle: u8, other: u8, confidence: u8) -> Outcome
-    ensures { λ r. ⌜ CodesAnswer angle other confidence (outcomeNumber r) ⌝ }
+// 5 and 6. A code that the shape doesn't use is given as 0, which either demand takes.
+pub fn codes_outcome(orientation: u8, offset: u8, included: u8, confidence: u8) -> Outcome
+    ensures { λ r. ⌜ CodesAnswer orientation offset included confidence (outcomeNumber r) ⌝ }
 {
-    if 180 <= angle {
+    if 180 <= orientation {
         return Outcome::Refused(Refusal::AngleCode);
     }
-    if 180 <= other {
+    if 180 <= offset {
+        return Outcome::Refused(Refusal::AngleCode);
+    }
+    if 180 <= included {
         return Outcome::Refused(Refusal::AngleCode);
     }
     if 101 <= confidence {

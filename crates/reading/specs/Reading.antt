@@ -16,28 +16,21 @@ use Rattle.layout.specs.declared.shapes.Shape.{Shape}
 use Rattle.layout.specs.declared.shapes.ShapeRead.{ShapeRead}
 use Rattle.layout.specs.Layout.{Row, shapeRows, start, level}
 use Rattle.layout.specs.Rows.{read, lengthOf}
-use Rattle.layout.specs.Demands.{ReadAnswer, CodesAnswer}
+use Rattle.layout.specs.Demands.{Listed, CountSound}
 use Rattle.layout.specs.Shapes.{shapeOf, blankShape, upto, zeroLatitude, zeroLongitude}
 
 -- the rows of a kind, where the octets give a polygon's count
 abbrev pub rowsFor : Kind → List ℕ → List Row
 rowsFor k s = shapeRows k (bits s 4 4)
 
--- the answer to octets as a message of a kind
-abbrev pub KindAnswer : Kind → List ℕ → ℕ → Type 0
-KindAnswer k s = ReadAnswer (rowsFor k s) s
+-- 3, of the length of a message and a number of octets
+abbrev pub LengthAnswer : ℕ → ℕ → ℕ → Type 0
+LengthAnswer whole octets = Unless (octets ≡ whole) 3 Else0
 
-abbrev pub PolygonAnswer : List ℕ → ℕ → Type 0
-PolygonAnswer s = KindAnswer Polygon s
-
--- 3, where only the length is demanded
-abbrev pub LengthAnswer : ℕ → List ℕ → ℕ → Type 0
-LengthAnswer n s = Unless (length s ≡ n) 3 Else0
-
--- 3, then 5 and 6 of the octets at two places and the low seven bits of the last
-abbrev pub CodedAnswer : ℕ → ℕ → ℕ → List ℕ → ℕ → Type 0
-CodedAnswer n angle other s =
-    Unless (length s ≡ n) 3 (CodesAnswer (bits s (8 * angle) 8) (bits s (8 * other) 8) (bits s (8 * (n - 1) + 1) 7))
+-- 2, 4 and 3, of a kind, a count n and a number of octets
+abbrev pub FormAnswer : Kind → ℕ → ℕ → ℕ → Type 0
+FormAnswer k n octets =
+    Unless (Listed (shapeRows k n)) 2 (Unless (CountSound (shapeRows k n) (λ f. n)) 4 (LengthAnswer (lengthOf (shapeRows k n)) octets))
 
 abbrev pub OfLength : Kind → List ℕ → Type 0
 OfLength k s = length s ≡ lengthOf (rowsFor k s)

@@ -1,60 +1,50 @@
-// Whether octets are a message of a kind.
-use crate::kinds;
+// Whether octets have the form of a message of a kind.
 use ground::Outcome;
 use ground::Refusal;
 use layout::Kind;
 ghost use Prim.Native.Nat.{_<_};
-ghost use lib.ListN.{length};
 ghost use Rattle.ground.specs.Answers.{outcomeNumber};
-ghost use Rattle.reading.specs.Reading.{KindAnswer, LengthAnswer, CodedAnswer, PolygonAnswer};
+ghost use Rattle.layout.specs.declared.shapes.Kind.the-variants.{Polygon};
+ghost use Rattle.reading.specs.Reading.{FormAnswer, LengthAnswer};
 
-pub fn outcome(s: &[u8], kind: Kind) -> Outcome
-    requires { ⌜ 0 < length (now s) ⌝ }
-    ensures { λ r. ⌜ KindAnswer kind (now (s .entry)) (outcomeNumber r) ⌝ }
+// 2, 4 and 3, of so many octets; n is a polygon's count.
+pub fn outcome(length: usize, kind: Kind, n: u8) -> Outcome
+    requires { ⌜ n < 16 ⌝ }
+    ensures { λ r. ⌜ FormAnswer kind n length (outcomeNumber r) ⌝ }
 {
     match kind {
         Kind::Nothing => Outcome::Refused(Refusal::UnknownType),
-        Kind::Point => of_length(s, 7),
-        Kind::Circle => of_length(s, 8),
-        Kind::Ellipse => coded(s, 11, 9, 9),
-        Kind::Polygon => polygon(s),
-        Kind::AltitudePoint => of_length(s, 9),
-        Kind::AltitudeEllipsoid => coded(s, 14, 11, 11),
-        Kind::Arc => coded(s, 13, 10, 11),
+        Kind::Point => of_length(length, 7),
+        Kind::Circle => of_length(length, 8),
+        Kind::Ellipse => of_length(length, 11),
+        Kind::Polygon => polygon(length, n),
+        Kind::AltitudePoint => of_length(length, 9),
+        Kind::AltitudeEllipsoid => of_length(length, 14),
+        Kind::Arc => of_length(length, 13),
     }
 }
 
-// A message of which only the length is demanded.
-fn of_length(s: &[u8], length: usize) -> Outcome
-    ensures { λ r. ⌜ LengthAnswer length (now (s .entry)) (outcomeNumber r) ⌝ }
+// 3, of a kind whose messages all have one length.
+fn of_length(length: usize, whole: usize) -> Outcome
+    ensures { λ r. ⌜ LengthAnswer whole length (outcomeNumber r) ⌝ }
 {
-    if s.len() == length {
+    if length == whole {
         return Outcome::Done;
     }
     Outcome::Refused(Refusal::WrongLength)
 }
 
-// A message with angles at two places, or one place given twice, and its confidence last.
-fn coded(s: &[u8], length: usize, angle: usize, other: usize) -> Outcome
-    requires { ⌜ angle < length ⌝ }
-    requires { ⌜ other < length ⌝ }
-    ensures { λ r. ⌜ CodedAnswer length angle other (now (s .entry)) (outcomeNumber r) ⌝ }
+// 4 and 3. Four bits hold no count above 15.
+fn polygon(length: usize, n: u8) -> Outcome
+    requires { ⌜ n < 16 ⌝ }
+    ensures { λ r. ⌜ FormAnswer Polygon n length (outcomeNumber r) ⌝ }
 {
-    if s.len() != length {
-        return Outcome::Refused(Refusal::WrongLength);
-    }
-    let confidence = octets::low_seven(s, length - 1);
-    layout::codes_outcome(octets::octet(s, angle), octets::octet(s, other), confidence)
-}
-
-fn polygon(s: &[u8]) -> Outcome
-    requires { ⌜ 0 < length (now s) ⌝ }
-    ensures { λ r. ⌜ PolygonAnswer (now (s .entry)) (outcomeNumber r) ⌝ }
-{
-    let count = kinds::count_at(s);
-    if count < 3 {
+    let whole = 1 + 6 * (n as usize);
+    if n < 3 {
         return Outcome::Refused(Refusal::PolygonCount);
     }
-    let length = 1 + 6 * (count as usize);
-    of_length(s, length)
+    if length != whole {
+        return Outcome::Refused(Refusal::WrongLength);
+    }
+    Outcome::Done
 }

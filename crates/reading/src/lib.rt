@@ -11,20 +11,32 @@ use layout::ShapeRead;
 ghost use Rattle.layout.specs.Shapes.{ReadsShape};
 ghost use Rattle.reading.specs.Reading.{RefusedWith};
 
-// The record in a message, or the refusal.
+// The record in a message, or the refusal. Each octet is looked at once; 5 and 6 are judged on the record, in which a code
+// that its kind has no field for is 0.
 pub fn read_shape(s: &[u8]) -> ShapeRead
     ensures { λ r. ⌜ ReadsShape (now (s .entry)) r ⌝ }
 {
     if s.len() == 0 {
         return refused(Refusal::NoOctets);
     }
-    let kind = kinds::kind_at(s);
-    match answers::outcome(s, kind) {
-        Outcome::Done => ShapeRead {
-            outcome: Outcome::Done,
-            shape: records::shape(s, kind),
-        },
-        Outcome::Refused(why) => refused(why),
+    let first = octets::octet(s, 0);
+    let kind = kinds::kind_of(first);
+    let n = first % 16;
+    if let Outcome::Refused(why) = answers::outcome(s.len(), kind, n) {
+        return refused(why);
+    }
+    let shape = records::shape(s, kind, n);
+    if let Outcome::Refused(why) = layout::codes_outcome(
+        shape.orientation.0,
+        shape.offset.0,
+        shape.included.0,
+        shape.confidence.0,
+    ) {
+        return refused(why);
+    }
+    ShapeRead {
+        outcome: Outcome::Done,
+        shape,
     }
 }
 

@@ -1,5 +1,4 @@
 // The record in a message of a kind, whose length is the kind's.
-use crate::kinds;
 use crate::points;
 use ground::AltitudeUncertaintyCode;
 use ground::ConfidenceCode;
@@ -13,10 +12,13 @@ use layout::Shape;
 ghost use mathlib.Core.Path.{_≡_};
 ghost use Prim.Native.Nat.{_≤_};
 ghost use lib.ListN.{length};
+ghost use Rattle.octets.specs.Bits.{bits};
 ghost use Rattle.layout.specs.declared.shapes.Kind.the-variants.{Circle, Ellipse, AltitudeEllipsoid, Arc};
 ghost use Rattle.reading.specs.Reading.{OfLength, recordOf, startOf, levelOf};
 
-pub fn shape(s: &[u8], kind: Kind) -> Shape
+// n is a polygon's count.
+pub fn shape(s: &[u8], kind: Kind, n: u8) -> Shape
+    requires { ⌜ n ≡ bits (now s) 4 4 ⌝ }
     requires { ⌜ OfLength kind (now s) ⌝ }
     ensures { λ r. ⌜ r ≡ recordOf kind (now (s .entry)) ⌝ }
 {
@@ -25,7 +27,7 @@ pub fn shape(s: &[u8], kind: Kind) -> Shape
         Kind::Point => started(s, Kind::Point),
         Kind::Circle => circle(s),
         Kind::Ellipse => ellipse(s),
-        Kind::Polygon => points::polygon(s, kinds::count_at(s)),
+        Kind::Polygon => points::polygon(s, n),
         Kind::AltitudePoint => levelled(s, Kind::AltitudePoint),
         Kind::AltitudeEllipsoid => altitude_ellipsoid(s),
         Kind::Arc => arc(s),

@@ -28,8 +28,8 @@ pub write-answer-one : (rows : List Row) (value : Field → ℕ) (room a b : ℕ
 write-answer-one rows value room =
     unless-one _ 2 _ (unless-one _ 4 _ (unless-one _ 5 _ (unless-one _ 6 _ (unless-one _ 7 _ (unless-one _ 10 _ zero-one)))))
 
-pub codes-answer-one : (x y z a b : ℕ) → CodesAnswer x y z a → CodesAnswer x y z b → a ≡ b
-codes-answer-one x y z = unless-one _ 5 _ (unless-one _ 6 _ zero-one)
+pub codes-answer-one : (w x y z a b : ℕ) → CodesAnswer w x y z a → CodesAnswer w x y z b → a ≡ b
+codes-answer-one w x y z = unless-one _ 5 _ (unless-one _ 6 _ zero-one)
 
 pub reads-shape-one : (s : List ℕ) (r q : ShapeRead) → ReadsShape s r → ReadsShape s q → r ≡ q
 reads-shape-one s r q a b =

@@ -1,16 +1,10 @@
 -- What is demanded of a velocity's numbers: of its codes the bearing's alone. Assumes nothing.
-use Prim.Native.Nat.{ℕ, _<_, _≤_}
-use mathlib.Core.Path.{_≡_, refl}
-use mathlib.Core.List.{List}
+use Prim.Native.Nat.{ℕ, _<_}
 use native.Mathlib.Omega.{arith}
-use lib.ListN.{length}
-use Rattle.ground.specs.Answers.{Unless, Else0, unmet, met}
-use Rattle.octets.specs.Bits.{bits}
 use Rattle.layout.specs.declared.velocities.VelocityKind.{VelocityKind}
 use Rattle.layout.specs.declared.velocities.VelocityKind.the-variants.{Nothing, Horizontal, HorizontalVertical, HorizontalUncertain, HorizontalVerticalUncertain}
 use Rattle.layout.specs.Layout.{Field, bearing, velocityRows}
-use Rattle.layout.specs.Rows.{read, lengthOf}
-use Rattle.layout.specs.Demands.{Listed, CountSound, AnglesSound, ConfidenceSound, ReadAnswer}
+use Rattle.layout.specs.Demands.{Listed, CountSound, AnglesSound, ConfidenceSound}
 
 -- a field that is not used
 no : {P : Type 0} → 0 < 0 → P
@@ -44,28 +38,3 @@ module _ (value : Field → ℕ) where
   bearing-sound HorizontalVertical l a = a .bearings (omega arith)
   bearing-sound HorizontalUncertain l a = a .bearings (omega arith)
   bearing-sound HorizontalVerticalUncertain l a = a .bearings (omega arith)
-
-pub least-length : (k : VelocityKind) → Listed (velocityRows k) → 4 ≤ lengthOf (velocityRows k)
-least-length Nothing l = absurd (omega arith)
-least-length Horizontal l = omega arith
-least-length HorizontalVertical l = omega arith
-least-length HorizontalUncertain l = omega arith
-least-length HorizontalVerticalUncertain l = omega arith
-
--- every kind has its bearing in the same bits
-module _ (s : List ℕ) where
-  bearing-bits : (k : VelocityKind) → Listed (velocityRows k) → read s (velocityRows k) bearing ≡ bits s 7 9
-  bearing-bits Nothing l = absurd (omega arith)
-  bearing-bits Horizontal l = refl
-  bearing-bits HorizontalVertical l = refl
-  bearing-bits HorizontalUncertain l = refl
-  bearing-bits HorizontalVerticalUncertain l = refl
-
-  -- 3 and 5 of a listed kind
-  pub listed-answer : (k : VelocityKind) (m : ℕ) → 0 < length s → Listed (velocityRows k)
-      → Unless (length s ≡ lengthOf (velocityRows k)) 3 (Unless (bits s 7 9 < 360) 5 Else0) m → ReadAnswer (velocityRows k) s m
-  listed-answer k m some l (unmet p e) = met some (met l (met (no-count _ k) (unmet p e)))
-  listed-answer k m some l (met p (unmet q e)) =
-      met some (met l (met (no-count _ k) (met p (unmet (λ a. q (rw (bearing-bits k l) at (bearing-sound _ k l a))) e))))
-  listed-answer k m some l (met p (met q e)) =
-      met some (met l (met (no-count _ k) (met p (met (sound-bearing _ k (rw (bearing-bits k l) q)) (met (no-confidence _ k) e)))))

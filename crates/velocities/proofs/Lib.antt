@@ -1,4 +1,4 @@
-pub mod TypeNumbers
+pub mod FirstOctet
 pub mod DemandLaws
 pub mod ReadLaws
 pub mod UnusedLaws

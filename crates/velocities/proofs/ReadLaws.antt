@@ -1,31 +1,45 @@
--- From the answers for a kind to the reader's promise. Assumes nothing.
-use Prim.Native.Nat.{ℕ}
-use mathlib.Core.Path.{_≡_, ap, sym, subst, _∙_}
+-- From the answers of the reader's parts to its promise. Assumes nothing.
+use Prim.Native.Nat.{ℕ, _<_, _≤_}
+use mathlib.Core.Path.{_≡_, refl, ap, sym, subst, _∙_}
 use mathlib.Core.List.{List}
 use native.Mathlib.Omega.{arith}
 use lib.ListN.{length}
-use Rattle.ground.specs.Answers.{numberOf, outcomeNumber, handed}
+use Rattle.ground.specs.Answers.{numberOf, outcomeNumber, handed, Unless, Else0, unmet, met}
 use Rattle.ground.specs.declared.refusals.Refusal.{Refusal}
+use Rattle.ground.specs.declared.refusals.Refusal.the-variants.{AngleCode}
 use Rattle.ground.specs.declared.refusals.Outcome.{Outcome}
 use Rattle.ground.specs.declared.refusals.Outcome.the-variants.{Done, Refused}
-use Rattle.ground.proofs.AnswerLaws.{when-done}
+use Rattle.ground.proofs.AnswerLaws.{not-0, when-done, unless-as}
 use Rattle.layout.specs.declared.velocities.VelocityKind.{VelocityKind}
 use Rattle.layout.specs.declared.velocities.VelocityKind.the-variants.{Nothing}
 use Rattle.layout.specs.declared.velocities.Velocity.{Velocity}
 use Rattle.layout.specs.declared.velocities.VelocityRead.{VelocityRead}
-use Rattle.layout.specs.Layout.{Row}
-use Rattle.layout.specs.Rows.{lengthOf}
-use Rattle.layout.specs.Demands.{ReadAnswer}
+use Rattle.layout.specs.Layout.{bearing, velocityRows}
+use Rattle.layout.specs.Rows.{read}
+use Rattle.layout.specs.Demands.{Listed, ReadAnswer}
 use Rattle.layout.specs.Velocities.{velocityKindIn, velocityRowsIn, velocityIn, blankVelocity, ReadsVelocity}
-use Rattle.velocities.specs.Reading.{KindAnswer, OfLength, recordOf, RefusedWith}
+use Rattle.velocities.specs.Reading.{FormAnswer, OfLength, recordOf, RefusedWith}
+use Rattle.velocities.proofs.DemandLaws.{no-count, no-confidence, sound-bearing, bearing-sound}
 
--- what is done has its layout's length
-done-length : (rows : List Row) (s : List ℕ) → ReadAnswer rows s 0 → length s ≡ lengthOf rows
-done-length rows s a =
-    let b = when-done _ 1 _ (λ e. absurd (omega arith)) a in
-    let c = when-done _ 2 _ (λ e. absurd (omega arith)) (b .1) in
-    let d = when-done _ 4 _ (λ e. absurd (omega arith)) (c .1) in
-    when-done _ 3 _ (λ e. absurd (omega arith)) (d .1) .0
+-- ---- the whole answer for a kind, from the form's and the bearing's
+
+module _ (s : List ℕ) (k : VelocityKind) where
+  formed : FormAnswer k (length s) 0 → Listed (velocityRows k) × OfLength k s
+  formed a =
+      let l = when-done _ 2 _ (λ e. absurd (omega arith)) a in
+      let w = when-done _ 3 _ (λ e. absurd (omega arith)) (l .1) in
+      (l .0, w .0)
+
+  whole : (m : ℕ) → 0 < length s → FormAnswer k (length s) 0 → Unless (read s (velocityRows k) bearing < 360) 5 Else0 m → ReadAnswer (velocityRows k) s m
+  whole m some a b =
+      let f = formed a in
+      met some (met (f .0) (met (no-count _ k) (met (f .1) (unless-as (sound-bearing _ k) (bearing-sound _ k (f .0)) (λ e. met (no-confidence _ k) e) b))))
+
+  no-form : (why : Refusal) → 0 < length s → FormAnswer k (length s) (numberOf why) → ReadAnswer (velocityRows k) s (numberOf why)
+  no-form why some a =
+      met some (unless-as (λ l. l) (λ l. l) (λ w. met (no-count _ k) (unless-as (λ h. h) (λ h. h) (λ e. absurd (not-0 why e)) w)) a)
+
+-- ---- the promise
 
 module _ (s : List ℕ) where
   pub refused-read : (why : Refusal) (r : VelocityRead) → ReadAnswer (velocityRowsIn s) s (numberOf why) → RefusedWith why r → ReadsVelocity s r
@@ -34,18 +48,31 @@ module _ (s : List ℕ) where
     velocity = h .velocity ∙ sym (ap (λ (o : Outcome). handed o (velocityIn s) (blankVelocity Nothing)) (h .outcome));
   }
 
-  module _ (k : VelocityKind) (o : Outcome) (e : k ≡ velocityKindIn s) (a : KindAnswer k s (outcomeNumber o)) where
+  module _ (k : VelocityKind) (some : 0 < length s) (e : k ≡ velocityKindIn s) (o : Outcome) (a : FormAnswer k (length s) (outcomeNumber o)) where
     -- the answer for the kind that the octets have
-    of-kind : (p : Outcome) → o ≡ p → ReadAnswer (velocityRowsIn s) s (outcomeNumber p)
-    of-kind p f =
-        subst (λ (q : Outcome). ReadAnswer (velocityRowsIn s) s (outcomeNumber q)) f
-        (subst (λ (j : VelocityKind). KindAnswer j s (outcomeNumber o)) e a)
+    own : (m : ℕ) → ReadAnswer (velocityRows k) s m → ReadAnswer (velocityRowsIn s) s m
+    own m b = subst (λ (j : VelocityKind). ReadAnswer (velocityRows j) s m) e b
+
+    form : (p : Outcome) → o ≡ p → FormAnswer k (length s) (outcomeNumber p)
+    form p f = subst (λ (q : Outcome). FormAnswer k (length s) (outcomeNumber q)) f a
+
+    pub form-refused : (why : Refusal) (r : VelocityRead) → o ≡ Refused why → RefusedWith why r → ReadsVelocity s r
+    form-refused why r f h = refused-read why r (own _ (no-form s k why some (form (Refused why) f))) h
 
     pub of-length : o ≡ Done → OfLength k s
-    of-length f = done-length _ s (subst (λ (q : Outcome). KindAnswer k s (outcomeNumber q)) f a)
+    of-length f = formed s k (form Done f) .1
 
-    pub done-read : (x : Velocity) → o ≡ Done → x ≡ recordOf k s → ReadsVelocity s (record { outcome = Done; velocity = x })
-    done-read x f h = record { answer = of-kind Done f; velocity = h ∙ ap (λ (j : VelocityKind). recordOf j s) e }
+    -- the record x
+    module _ (x : Velocity) (f : o ≡ Done) (g : x ≡ recordOf k s) where
+      bearing-read : x .bearing .0 ≡ read s (velocityRows k) bearing
+      bearing-read = ap (λ (y : Velocity). y .bearing .0) g
 
-    pub refused-of-kind : (why : Refusal) (r : VelocityRead) → o ≡ Refused why → RefusedWith why r → ReadsVelocity s r
-    refused-of-kind why r f h = refused-read why r (of-kind (Refused why) f) h
+      pub bearing-refused : (r : VelocityRead) → 360 ≤ x .bearing .0 → RefusedWith AngleCode r → ReadsVelocity s r
+      bearing-refused r l h =
+          refused-read AngleCode r (own 5 (whole s k 5 some (form Done f) (unmet (λ b. absurd (omega (arith, bearing-read))) refl))) h
+
+      pub done-read : x .bearing .0 < 360 → ReadsVelocity s (record { outcome = Done; velocity = x })
+      done-read l = record {
+        answer = own 0 (whole s k 0 some (form Done f) (met (omega (arith, bearing-read)) refl));
+        velocity = g ∙ ap (λ (j : VelocityKind). recordOf j s) e;
+      }

@@ -1,8 +1,8 @@
 -- A record's codes are in their fields just where those that its kind has no field for are zero: the others' types are their
 -- fields, but for the bearing's, which is demanded before. Assumes nothing.
-use Prim.Native.Nat.{ℕ, _^_, _<_}
+use Prim.Native.Nat.{_^_, _<_}
 use mathlib.Core.Path.{_≡_, refl, ap, subst}
-use mathlib.Core.Bool.{Bool, true, false, not}
+use mathlib.Core.Bool.{Bool, true, false}
 use mathlib.Core.List.{List}
 use native.Mathlib.Omega.{arith}
 use lib.Pow.{pow-pos}
@@ -41,22 +41,7 @@ use Rattle.layout.specs.Layout.{
 use Rattle.layout.specs.Rows.{widthOf}
 use Rattle.layout.specs.Demands.{Listed, InFields}
 use Rattle.layout.specs.Velocities.{velocityValueOf}
-use Rattle.velocities.specs.Writing.{Decides, AreZero}
-
--- ---- what a test decides
-
--- of `if !b`
-pub passed : {P : Type 0} (b : Bool) → Decides b P → not b ≡ false → P
-passed true d e = d
-passed false d e = let z : _≡_ {A = ℕ} 0 1 = cc in absurd (omega arith)
-
-pub failed : {P : Type 0} (b : Bool) → Decides b P → not b ≡ true → P → ⊥
-failed true d e = let z : _≡_ {A = ℕ} 0 1 = cc in absurd (omega arith)
-failed false d e = d
-
-pub decided : {P Q : Type 0} (b : Bool) → (P → Q) → (Q → P) → Decides b P → Decides b Q
-decided true f g d = f d
-decided false f g d = λ q. d (g q)
+use Rattle.velocities.specs.Writing.{AreZero}
 
 -- ---- what a record's codes are
 
@@ -70,7 +55,7 @@ pub record Typed (x : Velocity) : Type 0 where
   pub uncertainties : x .uncertainty .0 < 256
   pub verticalUncertainties : x .«vertical_uncertainty» .0 < 256
 
-bit-lt : (b : Bool) → bitOf b < 2
+pub bit-lt : (b : Bool) → bitOf b < 2
 bit-lt true = omega arith
 bit-lt false = omega arith
 

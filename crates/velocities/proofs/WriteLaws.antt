@@ -1,19 +1,12 @@
 -- From the demands on a record to the writer's promise. Assumes nothing.
 use Prim.Native.Nat.{ℕ, _<_, _≤_}
-use mathlib.Core.Path.{_≡_, refl, subst}
-use mathlib.Core.List.{List}
 use native.Mathlib.Omega.{arith}
-use lib.ListN.{length}
-use Rattle.ground.specs.Answers.{outcomeNumber, Unless, Else0, unmet, met}
-use Rattle.ground.specs.declared.refusals.Refusal.{Refusal}
-use Rattle.ground.specs.declared.refusals.Outcome.{Outcome}
-use Rattle.ground.specs.declared.refusals.Outcome.the-variants.{Done, Refused}
+use Rattle.ground.specs.Answers.{Unless, Else0, unmet, met}
 use Rattle.ground.proofs.AnswerLaws.{when-done}
 use Rattle.layout.specs.declared.velocities.Velocity.{Velocity}
 use Rattle.layout.specs.Rows.{lengthOf}
 use Rattle.layout.specs.Demands.{Listed}
-use Rattle.layout.specs.Velocities.{WritesVelocity}
-use Rattle.velocities.specs.Writing.{rowsOf, VelocityAnswer, VelocityInFields, Storable, Stored}
+use Rattle.velocities.specs.Writing.{rowsOf, VelocityAnswer, VelocityInFields, Storable}
 use Rattle.velocities.proofs.DemandLaws.{no-count, no-confidence, sound-bearing, bearing-sound}
 
 -- 5, 7 and 10 of a listed kind
@@ -24,25 +17,11 @@ listed-write x room m l (met b others) =
     met l (met (no-count _ (x .kind)) (met (sound-bearing _ (x .kind) b) (met (no-confidence _ (x .kind)) others)))
 
 -- what is done can be stored
-done-storable : (x : Velocity) (room : ℕ) → VelocityAnswer x room 0 → Storable x room
-done-storable x room a =
+pub storable : (x : Velocity) (room : ℕ) → VelocityAnswer x room 0 → Storable x room
+storable x room a =
     let b = when-done _ 2 _ (λ e. absurd (omega arith)) a in
     let c = when-done _ 4 _ (λ e. absurd (omega arith)) (b .1) in
     let d = when-done _ 5 _ (λ e. absurd (omega arith)) (c .1) in
     let f = when-done _ 6 _ (λ e. absurd (omega arith)) (d .1) in
     let g = when-done _ 7 _ (λ e. absurd (omega arith)) (f .1) in
     record { fields = g .0; fits = when-done _ 10 _ (λ e. absurd (omega arith)) (g .1) .0 }
-
-module _ (x : Velocity) (before : List ℕ) (o : Outcome) (a : VelocityAnswer x (length before) (outcomeNumber o)) where
-  answered : (p : Outcome) → o ≡ p → VelocityAnswer x (length before) (outcomeNumber p)
-  answered p e = subst (λ (q : Outcome). VelocityAnswer x (length before) (outcomeNumber q)) e a
-
-  pub storable : o ≡ Done → Storable x (length before)
-  storable e = done-storable x (length before) (answered Done e)
-
-  pub done-write : (after : List ℕ) (n : ℕ) → o ≡ Done → n ≡ lengthOf (rowsOf x) → Stored x before after
-      → WritesVelocity x before after (record { outcome = Done; length = n })
-  done-write after n e s h = record { answer = answered Done e; written = s; buffer = h }
-
-  pub refused-write : (why : Refusal) → o ≡ Refused why → WritesVelocity x before before (record { outcome = Refused why; length = 0 })
-  refused-write why e = record { answer = answered (Refused why) e; written = refl; buffer = refl }

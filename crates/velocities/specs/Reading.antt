@@ -3,6 +3,7 @@ use mathlib.Core.Path.{_≡_}
 use mathlib.Core.List.{List, [], _∷_, _++_}
 use Prim.Native.Nat.{ℕ}
 use lib.ListN.{length}
+use Rattle.ground.specs.Answers.{Unless, Else0}
 use Rattle.ground.specs.declared.refusals.Refusal.{Refusal}
 use Rattle.ground.specs.declared.refusals.Outcome.the-variants.{Refused}
 use Rattle.layout.specs.declared.velocities.VelocityKind.{VelocityKind}
@@ -11,12 +12,12 @@ use Rattle.layout.specs.declared.velocities.Velocity.{Velocity}
 use Rattle.layout.specs.declared.velocities.VelocityRead.{VelocityRead}
 use Rattle.layout.specs.Layout.{row, down, verticalSpeed, motion, velocityRows}
 use Rattle.layout.specs.Rows.{read, lengthOf}
-use Rattle.layout.specs.Demands.{ReadAnswer}
+use Rattle.layout.specs.Demands.{Listed}
 use Rattle.layout.specs.Velocities.{velocityOf, blankVelocity}
 
--- the answer to octets as a message of a kind
-abbrev pub KindAnswer : VelocityKind → List ℕ → ℕ → Type 0
-KindAnswer k = ReadAnswer (velocityRows k)
+-- 2 and 3, of a kind and a number of octets
+abbrev pub FormAnswer : VelocityKind → ℕ → ℕ → Type 0
+FormAnswer k octets = Unless (Listed (velocityRows k)) 2 (Unless (octets ≡ lengthOf (velocityRows k)) 3 Else0)
 
 abbrev pub OfLength : VelocityKind → List ℕ → Type 0
 OfLength k s = length s ≡ lengthOf (velocityRows k)

@@ -1,6 +1,6 @@
 -- What the parts of the writer promise of a record, in the words of the layout table. Assumes nothing.
 use mathlib.Core.Path.{_≡_}
-use mathlib.Core.Bool.{Bool, true, false}
+use mathlib.Core.Bool.{Bool, false}
 use mathlib.Core.List.{List, _++_}
 use Prim.Native.Nat.{ℕ, _+_, _*_, _≤_}
 use lib.ListN.{drop}
@@ -20,10 +20,6 @@ VelocityAnswer x = WriteAnswer (rowsOf x) (velocityValueOf x)
 
 abbrev pub VelocityInFields : Velocity → Type 0
 VelocityInFields x = InFields (rowsOf x) (velocityValueOf x)
-
-abbrev pub Decides : Bool → Type 0 → Type 0
-Decides true P = P
-Decides false P = P → ⊥
 
 pub record AreZero (down : Bool) (vertical uncertainty verticalUncertainty : ℕ) : Type 0 where
   pub downs : down ≡ false

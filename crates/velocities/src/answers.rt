@@ -1,34 +1,33 @@
-// Whether octets are a message of a kind, and whether a record is one that can be written.
+// Whether octets have the form of a message of a kind, and whether a record is one that can be written.
 use crate::kinds;
-use crate::records;
 use ground::Outcome;
 use ground::Refusal;
 use layout::Velocity;
 use layout::VelocityKind;
+ghost use mathlib.Core.Path.{_≡_};
 ghost use Prim.Native.Nat.{_<_};
-ghost use lib.ListN.{length};
-ghost use Rattle.ground.specs.Answers.{outcomeNumber};
+ghost use Rattle.ground.specs.Answers.{outcomeNumber, handed, Decides};
+ghost use Rattle.layout.specs.Layout.{velocityRows};
+ghost use Rattle.layout.specs.Rows.{lengthOf};
 ghost use Rattle.layout.specs.Demands.{Listed};
-ghost use Rattle.velocities.specs.Reading.{KindAnswer};
-ghost use Rattle.velocities.specs.Writing.{rowsOf, VelocityAnswer, VelocityInFields, Decides, AreZero};
+ghost use Rattle.velocities.specs.Reading.{FormAnswer};
+ghost use Rattle.velocities.specs.Writing.{rowsOf, VelocityAnswer, VelocityInFields, AreZero};
 
-pub fn of_message(s: &[u8], kind: VelocityKind) -> Outcome
-    requires { ⌜ 0 < length (now s) ⌝ }
-    ensures { λ r. ⌜ KindAnswer kind (now (s .entry)) (outcomeNumber r) ⌝ }
+// 2 and 3, of so many octets.
+pub fn of_message(length: usize, kind: VelocityKind) -> Outcome
+    ensures { λ r. ⌜ FormAnswer kind length (outcomeNumber r) ⌝ }
 {
-    let length = kinds::length_of(kind);
-    if length == 0 {
+    let whole = kinds::length_of(kind);
+    if whole == 0 {
         return Outcome::Refused(Refusal::UnknownType);
     }
-    if s.len() != length {
+    if length != whole {
         return Outcome::Refused(Refusal::WrongLength);
-    }
-    if 360 <= records::bearing_at(s) {
-        return Outcome::Refused(Refusal::AngleCode);
     }
     Outcome::Done
 }
 
+// 2, 5, 7 and 10, of so much room.
 pub fn of_record(velocity: Velocity, room: usize) -> Outcome
     ensures { λ r. ⌜ VelocityAnswer velocity room (outcomeNumber r) ⌝ }
 {
@@ -47,6 +46,16 @@ pub fn of_record(velocity: Velocity, room: usize) -> Outcome
         return Outcome::Refused(Refusal::BufferTooShort);
     }
     Outcome::Done
+}
+
+// How many octets are written: none on a refusal.
+pub fn written(outcome: Outcome, kind: VelocityKind) -> usize
+    ensures { λ r. ⌜ r ≡ handed outcome (lengthOf (velocityRows kind)) 0 ⌝ }
+{
+    match outcome {
+        Outcome::Done => kinds::length_of(kind),
+        Outcome::Refused(_) => 0,
+    }
 }
 
 // Whether what the kind has no field for is zero. Its own fields hold every code of their types, and every bearing below 360.

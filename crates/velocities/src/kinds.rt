@@ -1,18 +1,16 @@
 // The kinds' type numbers and lengths.
 use layout::VelocityKind;
 ghost use mathlib.Core.Path.{_≡_};
-ghost use Prim.Native.Nat.{_<_};
-ghost use lib.ListN.{length};
+ghost use Prim.Native.Nat.{_/_};
 ghost use Rattle.layout.specs.Layout.{velocityRows, velocityTypeOf};
 ghost use Rattle.layout.specs.Rows.{lengthOf};
-ghost use Rattle.layout.specs.Velocities.{velocityKindIn};
+ghost use Rattle.layout.specs.Velocities.{velocityKindOf};
 
-// The kind of the type in bits 8 to 5 of the first octet.
-pub fn kind_at(s: &[u8]) -> VelocityKind
-    requires { ⌜ 0 < length (now s) ⌝ }
-    ensures { λ r. ⌜ r ≡ velocityKindIn (now (s .entry)) ⌝ }
+// The kind of the type in bits 8 to 5 of a first octet.
+pub fn kind_of(first: u8) -> VelocityKind
+    ensures { λ r. ⌜ r ≡ velocityKindOf (first / 16) ⌝ }
 {
-    match octets::octet(s, 0) / 16 {
+    match first / 16 {
         0 => VelocityKind::Horizontal,
         1 => VelocityKind::HorizontalVertical,
         2 => VelocityKind::HorizontalUncertain,

@@ -16,20 +16,25 @@ ghost use Rattle.layout.specs.Velocities.{ReadsVelocity, WritesVelocity};
 ghost use Rattle.velocities.specs.Reading.{RefusedWith};
 ghost use Rattle.velocities.specs.Writing.{rowsOf, VelocityAnswer};
 
-// The record in a message, or the refusal.
+// The record in a message, or the refusal. Each octet is looked at once, and 5 is judged on the record.
 pub fn read_velocity(s: &[u8]) -> VelocityRead
     ensures { λ r. ⌜ ReadsVelocity (now (s .entry)) r ⌝ }
 {
     if s.len() == 0 {
         return refused(Refusal::NoOctets);
     }
-    let kind = kinds::kind_at(s);
-    match answers::of_message(s, kind) {
-        Outcome::Done => VelocityRead {
-            outcome: Outcome::Done,
-            velocity: records::velocity(s, kind),
-        },
-        Outcome::Refused(why) => refused(why),
+    let first = octets::octet(s, 0);
+    let kind = kinds::kind_of(first);
+    if let Outcome::Refused(why) = answers::of_message(s.len(), kind) {
+        return refused(why);
+    }
+    let velocity = records::velocity(s, kind, first);
+    if 360 <= velocity.bearing.0 {
+        return refused(Refusal::AngleCode);
+    }
+    VelocityRead {
+        outcome: Outcome::Done,
+        velocity,
     }
 }
 
@@ -48,21 +53,13 @@ pub fn write_velocity(out: &mut [u8], velocity: Velocity) -> Written
     ensures { λ r. ⌜ WritesVelocity velocity (now (out .entry)) (now (out .exit)) r ⌝ }
 {
     let kind = velocity.kind;
-    let length = kinds::length_of(kind);
     let room = out.len();
-    match answers::of_record(velocity, room) {
-        Outcome::Done => {
-            messages::put(out, velocity);
-            Written {
-                outcome: Outcome::Done,
-                length,
-            }
-        }
-        Outcome::Refused(why) => Written {
-            outcome: Outcome::Refused(why),
-            length: 0,
-        },
+    let outcome = answers::of_record(velocity, room);
+    let length = answers::written(outcome, kind);
+    if 0 < length {
+        messages::put(out, velocity);
     }
+    Written { outcome, length }
 }
 
 // What writing the record answers, given room for its message.

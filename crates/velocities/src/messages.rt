@@ -7,6 +7,7 @@ ghost use mathlib.Core.List.{[], _∷_, _++_};
 ghost use Prim.Native.Nat.{_<_, _≤_};
 ghost use lib.ListN.{length};
 ghost use lib.Seq.{sets};
+ghost use Rattle.octets.specs.Codes.{bitOf};
 ghost use Rattle.velocities.specs.Writing.{Storable, Stored, firstNumber, front};
 
 // Stores the message.
@@ -39,16 +40,26 @@ pub fn put(out: &mut [u8], velocity: Velocity)
     }
 }
 
-// The number of the first two octets: the type, D, which is zero in a kind that has none, and the bearing.
+// The number of the first two octets. The first is the type, D, which is zero in a kind that has none, and the bearing's
+// high bit.
 fn first_word(type_number: u16, down: bool, bearing: u16) -> u16
     requires { ⌜ «type_number» < 16 ⌝ }
     requires { ⌜ bearing < 512 ⌝ }
     ensures { λ r. ⌜ r ≡ firstNumber «type_number» down bearing ⌝ }
 {
-    if down {
-        return 4096 * type_number + 512 + bearing;
+    let d = bit(down);
+    let high = bearing / 256;
+    let first = 16 * type_number + 2 * d + high;
+    256 * first + bearing % 256
+}
+
+fn bit(sign: bool) -> u16
+    ensures { λ r. ⌜ r ≡ bitOf sign ⌝ }
+{
+    if sign {
+        return 1;
     }
-    4096 * type_number + bearing
+    0
 }
 
 // Stores the four octets of two numbers, from the first on; then with one octet more; then with two more.

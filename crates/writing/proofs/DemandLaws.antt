@@ -1,28 +1,21 @@
 -- The answer to a record's codes, for each kind, and the whole answer from its two parts. Assumes nothing.
-use Prim.Native.Nat.{ℕ, _+_, _*_, _≤_, _<_}
+use Prim.Native.Nat.{ℕ, _≤_, _<_}
 use mathlib.Core.Path.{_≡_, refl, sym, subst}
 use mathlib.Core.List.{List}
 use native.Mathlib.Omega.{arith}
 use Rattle.ground.specs.Answers.{numberOf, Unless, unmet, met}
-use Rattle.ground.specs.declared.refusals.Outcome.the-variants.{Done, Refused}
 use Rattle.ground.specs.declared.refusals.Refusal.{Refusal}
-use Rattle.ground.proofs.AnswerLaws.{when-done, outcome-one}
+use Rattle.ground.proofs.AnswerLaws.{not-0, when-done, unless-as}
 use Rattle.layout.specs.declared.shapes.Kind.{Kind}
 use Rattle.layout.specs.declared.shapes.Kind.the-variants.{Nothing, Point, Circle, Ellipse, Polygon, AltitudePoint, AltitudeEllipsoid, Arc}
 use Rattle.layout.specs.declared.shapes.Shape.{Shape}
 use Rattle.layout.specs.Layout.{Field, Row, count, orientation, offset, included, bearing, confidence, shapeRows}
-use Rattle.layout.specs.Rows.{tag, widthOf, lengthOf}
-use Rattle.layout.specs.Demands.{Listed, CountSound, AnglesSound, ConfidenceSound, InFields, WriteAnswer, CodesAnswer}
+use Rattle.layout.specs.Rows.{tag, widthOf}
+use Rattle.layout.specs.Demands.{Listed, CountSound, AnglesSound, ConfidenceSound, WriteAnswer, CodesAnswer}
 use Rattle.layout.specs.Shapes.{rowsOf, valueOf}
 use Rattle.layout.proofs.PolygonLaws.{polygon-length, none-found}
 use Rattle.writing.specs.Writing.{CodesAnswerOf, RoomAnswerOf, CountAnswer}
 use Rattle.writing.specs.Storing.{Storable}
-
--- a demand in other words, and other demands after it
-module _ {P Q : Type 0} {n : ℕ} {A B : ℕ → Type 0} {m : ℕ} (to : P → Q) (from : Q → P) (others : A m → B m) where
-  unless-as : Unless P n A m → Unless Q n B m
-  unless-as (unmet p e) = unmet (λ q. p (from q)) e
-  unless-as (met p e) = met (to p) (others e)
 
 -- ---- any rows
 
@@ -42,10 +35,10 @@ module _ (rows : List Row) (value : Field → ℕ) where
   plain : Listed rows → CountSound rows value → AnglesSound rows value → ConfidenceSound rows value → CodesAnswerOf rows value 0
   plain a b c d = met a (met b (met c (met d refl)))
 
-  coded : (one other m : ℕ) → Listed rows → CountSound rows value → ((one < 180) × (other < 180) → AnglesSound rows value) → (AnglesSound rows value → (one < 180) × (other < 180)) → 0 < widthOf rows confidence
-      → CodesAnswer one other (value confidence) m → CodesAnswerOf rows value m
-  coded one other m a b to from u h =
-      met a (met b (unless-as to from (unless-as (λ l. record { confidences = λ _. l }) (λ s. s .confidences u) (λ e. e)) h))
+  coded : (a b c m : ℕ) → Listed rows → CountSound rows value → ((a < 180) × (b < 180) × (c < 180) → AnglesSound rows value) → (AnglesSound rows value → (a < 180) × (b < 180) × (c < 180)) → 0 < widthOf rows confidence
+      → CodesAnswer a b c (value confidence) m → CodesAnswerOf rows value m
+  coded a b c m l n to from u h =
+      met l (met n (unless-as to from (unless-as (λ l. record { confidences = λ _. l }) (λ s. s .confidences u) (λ e. e)) h))
 
   -- the whole answer
   pub whole : (room m : ℕ) → CodesAnswerOf rows value 0 → RoomAnswerOf rows value room m → WriteAnswer rows value room m
@@ -58,8 +51,7 @@ module _ (rows : List Row) (value : Field → ℕ) where
 
   pub refused : (room : ℕ) (why : Refusal) → CodesAnswerOf rows value (numberOf why) → WriteAnswer rows value room (numberOf why)
   refused room why h =
-      let never : numberOf why ≡ 0 → ⊥ = λ e. let o = outcome-one (Refused why) Done e in let z : _≡_ {A = ℕ} 0 1 = cc in absurd (omega arith) in
-      after (after (after (after (λ e. absurd (never e))))) h
+      after (after (after (after (λ e. absurd (not-0 why e))))) h
     where
       after : {P : Type 0} {n m : ℕ} {A B : ℕ → Type 0} → (A m → B m) → Unless P n A m → Unless P n B m
       after others = unless-as (λ p. p) (λ p. p) others
@@ -107,25 +99,25 @@ module _ (x : Shape) where
 
   -- an orientation and a confidence
   oriented : (k : Kind) (m : ℕ) → x .kind ≡ k → Listed (rows-at k) → widthOf (rows-at k) count ≡ 0 → 0 < widthOf (rows-at k) orientation → widthOf (rows-at k) offset ≡ 0 → widthOf (rows-at k) included ≡ 0 → widthOf (rows-at k) bearing ≡ 0
-      → 0 < widthOf (rows-at k) confidence → CodesAnswer (x .orientation .0) (x .orientation .0) (x .confidence .0) m → CodesAnswerOf (rowsOf x) value-of m
+      → 0 < widthOf (rows-at k) confidence → CodesAnswer (x .orientation .0) 0 0 (x .confidence .0) m → CodesAnswerOf (rowsOf x) value-of m
   oriented k m e l a b c d f g h =
       of-kind k m e
-      (coded (rows-at k) value-of (x .orientation .0) (x .orientation .0) m l (no-count (rows-at k) value-of a)
+      (coded (rows-at k) value-of (x .orientation .0) 0 0 m l (no-count (rows-at k) value-of a)
       (λ p. record { orientations = λ _. p .0; offsets = unused (rows-at k) value-of offset c; includeds = unused (rows-at k) value-of included d; bearings = unused (rows-at k) value-of bearing f })
-      (λ s. (s .orientations b, s .orientations b)) g h)
+      (λ s. (s .orientations b, omega arith, omega arith)) g h)
 
-  pub ellipse-codes : (m : ℕ) → x .kind ≡ Ellipse → CodesAnswer (x .orientation .0) (x .orientation .0) (x .confidence .0) m → CodesAnswerOf (rowsOf x) value-of m
+  pub ellipse-codes : (m : ℕ) → x .kind ≡ Ellipse → CodesAnswer (x .orientation .0) 0 0 (x .confidence .0) m → CodesAnswerOf (rowsOf x) value-of m
   ellipse-codes m e = oriented Ellipse m e (omega arith) refl (omega arith) refl refl refl (omega arith)
 
-  pub ellipsoid-codes : (m : ℕ) → x .kind ≡ AltitudeEllipsoid → CodesAnswer (x .orientation .0) (x .orientation .0) (x .confidence .0) m → CodesAnswerOf (rowsOf x) value-of m
+  pub ellipsoid-codes : (m : ℕ) → x .kind ≡ AltitudeEllipsoid → CodesAnswer (x .orientation .0) 0 0 (x .confidence .0) m → CodesAnswerOf (rowsOf x) value-of m
   ellipsoid-codes m e = oriented AltitudeEllipsoid m e (omega arith) refl (omega arith) refl refl refl (omega arith)
 
-  pub arc-codes : (m : ℕ) → x .kind ≡ Arc → CodesAnswer (x .offset .0) (x .included .0) (x .confidence .0) m → CodesAnswerOf (rowsOf x) value-of m
+  pub arc-codes : (m : ℕ) → x .kind ≡ Arc → CodesAnswer 0 (x .offset .0) (x .included .0) (x .confidence .0) m → CodesAnswerOf (rowsOf x) value-of m
   arc-codes m e h =
       of-kind Arc m e
-      (coded (rows-at Arc) value-of (x .offset .0) (x .included .0) m (omega arith) (no-count (rows-at Arc) value-of refl)
-      (λ p. record { orientations = unused (rows-at Arc) value-of orientation refl; offsets = λ _. p .0; includeds = λ _. p .1; bearings = unused (rows-at Arc) value-of bearing refl })
-      (λ s. (s .offsets (omega arith), s .includeds (omega arith))) (omega arith) h)
+      (coded (rows-at Arc) value-of 0 (x .offset .0) (x .included .0) m (omega arith) (no-count (rows-at Arc) value-of refl)
+      (λ p. record { orientations = unused (rows-at Arc) value-of orientation refl; offsets = λ _. p .1; includeds = λ _. p .2; bearings = unused (rows-at Arc) value-of bearing refl })
+      (λ s. (omega arith, s .offsets (omega arith), s .includeds (omega arith))) (omega arith) h)
 
   none : (f : Field) → 2 ≤ tag f → tag f < 22 → widthOf (rows-at Polygon) f ≡ 0
   none f a b = none-found (x .count) f a (λ l. absurd (omega arith))

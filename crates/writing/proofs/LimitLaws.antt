@@ -1,18 +1,17 @@
 -- A record's codes are in their fields just where the fixed fields' are within their widths, and its points within theirs.
 -- Assumes nothing.
-use Prim.Native.Nat.{ℕ, zero, suc, _+_, _*_, _/_, _^_, _≤_, _<_}
-use mathlib.Core.Path.{_≡_, refl, sym, ap, subst, _∙_}
-use mathlib.Core.Bool.{Bool, true, false, cond, not, _&&_}
+use Prim.Native.Nat.{ℕ, zero, suc, _*_, _/_, _^_, _≤_, _<_}
+use mathlib.Core.Path.{_≡_, refl}
+use mathlib.Core.Bool.{Bool, true, false, cond, _&&_}
 use mathlib.Core.List.{List, [], _∷_, map}
 use native.Mathlib.Omega.{arith}
-use native.Mathlib.Nat.{div-eq-of-lt, div-lt-iff-lt-mul}
+use native.Mathlib.Nat.{div-lt-iff-lt-mul}
 use lib.Dec.{ltb}
 use lib.ListN.{length, getD, List·getD-eq-default}
 use lib.Pow.{pow-pos}
-use borrow.Author.Tests.{ltb-true, ltb-false, le-ltb}
+use borrow.Author.Tests.{ltb-true, ltb-false}
 use Rattle.ground.specs.declared.codes.LatitudeCode.{LatitudeCode}
 use Rattle.ground.specs.declared.codes.LongitudeCode.{LongitudeCode}
-use Rattle.octets.specs.Codes.{bitOf, complement}
 use Rattle.layout.specs.declared.shapes.Kind.{Kind}
 use Rattle.layout.specs.declared.shapes.Kind.the-variants.{Nothing, Point, Circle, Ellipse, Polygon, AltitudePoint, AltitudeEllipsoid, Arc}
 use Rattle.layout.specs.declared.shapes.Shape.{Shape}
@@ -44,25 +43,11 @@ use Rattle.layout.specs.Layout.{
   typeOf,
 }
 use Rattle.layout.specs.Rows.{tag, widthOf}
-use Rattle.layout.specs.Demands.{InFields}
 use Rattle.layout.specs.Shapes.{rowsOf, valueOf, zeroLatitude, zeroLongitude}
 use Rattle.layout.proofs.TidyLaws.{both}
 use Rattle.layout.proofs.PolygonLaws.{point-row}
 use Rattle.layout.proofs.KindLaws.{pointsOf, point-width, no-point-width, fixed-width}
-use Rattle.writing.specs.Limits.{Decides, ShapeInFields, fixedFields, numbersOf, widthsOf, Within, PointWithin, PointsWithin}
-
--- what a test `if !decides(..)` shows where it is passed, and where it is not
-pub shown : {P : Type 0} (b : Bool) → not b ≡ false → Decides b P → P
-shown true e h = h
-shown false e h = let z : _≡_ {A = ℕ} 0 1 = cc in absurd (omega arith)
-
-pub refuted : {P : Type 0} (b : Bool) → not b ≡ true → Decides b P → P → ⊥
-refuted true e h = let z : _≡_ {A = ℕ} 0 1 = cc in absurd (omega arith)
-refuted false e h = h
-
-pub decided : {P Q : Type 0} (b : Bool) → (P → Q) → (Q → P) → Decides b P → Decides b Q
-decided true f g h = f h
-decided false f g h = λ q. h (g q)
+use Rattle.writing.specs.Limits.{ShapeInFields, fixedFields, numbersOf, widthsOf, Within, PointWithin, PointsWithin}
 
 -- ---- one number, shifted by its width
 

@@ -1,8 +1,7 @@
 -- A message stored part after part. Assumes nothing.
 use Prim.Native.Nat.{ℕ, zero, suc, _+_, _*_, _≤_, _<_}
 use mathlib.Core.Path.{_≡_, refl, sym, ap, subst, _∙_}
-use mathlib.Core.Bool.{true, cond}
-use mathlib.Core.List.{List, [], _∷_, _++_, append-assoc}
+use mathlib.Core.List.{List, [], _∷_, _++_}
 use native.Mathlib.Omega.{arith}
 use native.Mathlib.Nat.{zero-add, add-zero}
 use native.Mathlib.Numerals.{add-one}
@@ -16,7 +15,6 @@ use Rattle.layout.specs.declared.shapes.Kind.the-variants.{Nothing, Point, Circ
 use Rattle.layout.specs.declared.shapes.Shape.{Shape}
 use Rattle.layout.specs.Layout.{
   Field,
-  typeNumber,
   count,
   south,
   latitude,

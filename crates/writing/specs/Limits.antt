@@ -1,5 +1,5 @@
 -- The widths of a record's fields, from the layout table, and the codes that they hold. Assumes nothing.
-use mathlib.Core.Bool.{Bool, true, false, cond}
+use mathlib.Core.Bool.{Bool, cond}
 use mathlib.Core.List.{List, [], _∷_, map}
 use Prim.Native.Nat.{ℕ, _^_, _<_}
 use lib.Dec.{ltb}
@@ -31,10 +31,6 @@ use Rattle.layout.specs.Layout.{
 use Rattle.layout.specs.Rows.{widthOf}
 use Rattle.layout.specs.Demands.{InFields}
 use Rattle.layout.specs.Shapes.{rowsOf, valueOf, zeroLatitude, zeroLongitude}
-
-abbrev pub Decides : Bool → Type 0 → Type 0
-Decides true P = P
-Decides false P = P → ⊥
 
 abbrev pub ShapeInFields : Shape → Type 0
 ShapeInFields x = InFields (rowsOf x) (valueOf x)

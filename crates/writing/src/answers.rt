@@ -6,7 +6,7 @@ use layout::Kind;
 use layout::Shape;
 ghost use mathlib.Core.Path.{_≡_};
 ghost use Prim.Native.Nat.{_+_, _*_};
-ghost use Rattle.ground.specs.Answers.{outcomeNumber};
+ghost use Rattle.ground.specs.Answers.{outcomeNumber, handed};
 ghost use Rattle.layout.specs.Shapes.{rowsOf, valueOf};
 ghost use Rattle.layout.specs.Rows.{lengthOf};
 ghost use Rattle.layout.specs.Layout.{shapeRows};
@@ -33,11 +33,11 @@ fn codes(shape: Shape) -> Outcome
         Kind::Nothing => Outcome::Refused(Refusal::UnknownType),
         Kind::Point => Outcome::Done,
         Kind::Circle => Outcome::Done,
-        Kind::Ellipse => layout::codes_outcome(orientation, orientation, confidence),
+        Kind::Ellipse => layout::codes_outcome(orientation, 0, 0, confidence),
         Kind::Polygon => count(shape.count),
         Kind::AltitudePoint => Outcome::Done,
-        Kind::AltitudeEllipsoid => layout::codes_outcome(orientation, orientation, confidence),
-        Kind::Arc => layout::codes_outcome(shape.offset.0, shape.included.0, confidence),
+        Kind::AltitudeEllipsoid => layout::codes_outcome(orientation, 0, 0, confidence),
+        Kind::Arc => layout::codes_outcome(0, shape.offset.0, shape.included.0, confidence),
     }
 }
 
@@ -66,6 +66,16 @@ fn fitted(shape: Shape, room: usize) -> Outcome
         return Outcome::Refused(Refusal::BufferTooShort);
     }
     Outcome::Done
+}
+
+// How many octets are written: none on a refusal.
+pub fn written(outcome: Outcome, kind: Kind, n: u8) -> usize
+    ensures { λ r. ⌜ r ≡ handed outcome (lengthOf (shapeRows kind n)) 0 ⌝ }
+{
+    match outcome {
+        Outcome::Done => length_of(kind, n),
+        Outcome::Refused(_) => 0,
+    }
 }
 
 // The length of a kind's message; n is a polygon's count.

@@ -16,22 +16,14 @@ ghost use Rattle.writing.specs.Writing.{ShapeAnswer};
 pub fn write_shape(out: &mut [u8], shape: Shape) -> Written
     ensures { λ r. ⌜ WritesShape shape (now (out .entry)) (now (out .exit)) r ⌝ }
 {
-    let room = out.len();
     let kind = shape.kind;
-    match answers::outcome(shape, room) {
-        Outcome::Done => {
-            messages::put(out, shape);
-            let length = answers::length_of(kind, shape.count);
-            Written {
-                outcome: Outcome::Done,
-                length,
-            }
-        }
-        Outcome::Refused(why) => Written {
-            outcome: Outcome::Refused(why),
-            length: 0,
-        },
+    let room = out.len();
+    let outcome = answers::outcome(shape, room);
+    let length = answers::written(outcome, kind, shape.count);
+    if 0 < length {
+        messages::put(out, shape);
     }
+    Written { outcome, length }
 }
 
 // What writing the record answers, given room for its message.

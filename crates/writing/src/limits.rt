@@ -5,8 +5,9 @@ use layout::Shape;
 ghost use mathlib.Core.Path.{_≡_};
 ghost use Prim.Native.Nat.{ℕ, _<_};
 ghost use lib.ListN.{getD};
+ghost use Rattle.ground.specs.Answers.{Decides};
 ghost use Rattle.octets.specs.Codes.{bitOf};
-ghost use Rattle.writing.specs.Limits.{Decides, ShapeInFields, numbersOf, widthsOf, Within};
+ghost use Rattle.writing.specs.Limits.{ShapeInFields, numbersOf, widthsOf, Within};
 
 pub fn in_fields(shape: Shape) -> bool
     ensures { λ r. ⌜ Decides r (ShapeInFields shape) ⌝ }

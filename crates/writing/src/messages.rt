@@ -59,42 +59,29 @@ fn put_rest(out: &mut [u8], shape: Shape)
 {
     let kind = shape.kind;
     let altitude = shape.altitude;
+    let uncertainty = shape.uncertainty.0;
+    let major = shape.semi_major.0;
+    let minor = shape.semi_minor.0;
+    let orientation = shape.orientation.0;
+    let altitude_uncertainty = shape.altitude_uncertainty.0;
+    let confidence = shape.confidence.0;
+    let offset = shape.offset.0;
+    let included = shape.included.0;
     match kind {
         Kind::Nothing => {}
         Kind::Point => {}
-        Kind::Circle => out[7] = shape.uncertainty.0,
-        Kind::Ellipse => put_four(
-            out,
-            7,
-            shape.semi_major.0,
-            shape.semi_minor.0,
-            shape.orientation.0,
-            shape.confidence.0,
-        ),
+        Kind::Circle => out[7] = uncertainty,
+        Kind::Ellipse => put_four(out, 7, major, minor, orientation, confidence),
         Kind::Polygon => {}
         Kind::AltitudePoint => put_altitude(out, altitude),
         Kind::AltitudeEllipsoid => {
             put_altitude(out, altitude);
-            put_four(
-                out,
-                9,
-                shape.semi_major.0,
-                shape.semi_minor.0,
-                shape.orientation.0,
-                shape.altitude_uncertainty.0,
-            );
-            out[13] = shape.confidence.0;
+            put_four(out, 9, major, minor, orientation, altitude_uncertainty);
+            out[13] = confidence;
         }
         Kind::Arc => {
             storing::put_word(out, 7, shape.inner_radius.0);
-            put_four(
-                out,
-                9,
-                shape.uncertainty.0,
-                shape.offset.0,
-                shape.included.0,
-                shape.confidence.0,
-            );
+            put_four(out, 9, uncertainty, offset, included, confidence);
         }
     }
 }

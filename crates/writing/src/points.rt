@@ -2,11 +2,11 @@
 use ground::LatitudeCode;
 use ground::LongitudeCode;
 ghost use mathlib.Core.Path.{_≡_};
-ghost use mathlib.Core.List.{_++_};
 ghost use Prim.Native.Nat.{_+_, _*_, _<_, _≤_};
-ghost use lib.ListN.{length, take, drop};
+ghost use lib.ListN.{length};
 ghost use lib.Seq.{sets};
-ghost use Rattle.writing.specs.Limits.{Decides, PointWithin, PointsWithin};
+ghost use Rattle.ground.specs.Answers.{Decides};
+ghost use Rattle.writing.specs.Limits.{PointWithin, PointsWithin};
 ghost use Rattle.writing.specs.Storing.{position, positions};
 
 // Whether the first n points are within their fields, and the others zero.

@@ -1,12 +1,17 @@
--- No octets: 1. Else the answer for the octets' kind, and where it is done the record of that kind.
-use borrow.Author.Needs.{needs}
+-- No octets: 1. Else the answer to the form, and where it is done the answer to the record's codes.
+use Prim.Native.Nat.{_%_}
 use mathlib.Core.Path.{refl}
 use native.Mathlib.Omega.{arith}
 use denote.Ref.{now}
 use Rattle.ground.specs.Answers.{unmet}
-use Rattle.reading.proofs.ReadLaws.{refused-read, of-length, done-read, refused-of-kind}
+use Rattle.reading.proofs.ReadLaws.{refused-read, Starts, starts, form-refused, of-length, codes-refused, done-read}
+use borrow.Author.Needs.{needs}
 use Rattle.reading.proofs.read_shape.Statement.{statement}
 use Rattle.reading.proofs.read_shape.Tie as tie
+
+-- what the first octet says
+first : (c : tie.After-kind-of) → Starts (now (c .before .before .before .before .args .s)) (c .kind-of .result) (c .before .octet .result % 16)
+first c = starts _ _ _ (omega (arith, c .before .before .if1 .left)) (c .before .octet .ensures) (c .kind-of .ensures)
 
 refused-requires : tie.Need-refused-requires
 refused-requires c κs = search needs
@@ -14,17 +19,14 @@ refused-requires c κs = search needs
 returns : tie.Need-returns
 returns c = refused-read (now (c .before .before .before .args .s)) _ _ (unmet (λ h. absurd (omega (arith, h, c .before .if1 .taken))) refl) (c .refused .ensures)
 
-kind-at-requires : tie.Need-kind-at-requires
-kind-at-requires c κs = search needs
+octet-requires : tie.Need-octet-requires
+octet-requires c κs = search needs
+
+kind-of-requires : tie.Need-kind-of-requires
+kind-of-requires c κs = search needs
 
 outcome-requires : tie.Need-outcome-requires
 outcome-requires c κs = search needs
-
-enum-told : tie.Need-enum-told
-enum-told c = search needs
-
-shape-requires : tie.Need-shape-requires
-shape-requires c κs = of-length _ _ _ (c .before .before .before .kind-at .ensures) (c .before .before .outcome .ensures) (c .enum-told .given .1)
 
 enum-known-why : tie.Need-enum-known-why
 enum-known-why c = search needs
@@ -33,10 +35,31 @@ refused-requires-2 : tie.Need-refused-requires-2
 refused-requires-2 c κs = search needs
 
 returns-2 : tie.Need-returns-2
-returns-2 c = done-read _ _ _ (c .before .before .before .before .kind-at .ensures) (c .before .before .before .outcome .ensures) _ (c .before .enum-told .given .1) (c .shape .ensures)
+returns-2 c = form-refused _ _ _ (first (c .before .before .before .before .before)) _ (c .before .before .before .before .outcome .ensures) _ _ (c .before .before .why .given .1) (c .refused2 .ensures)
+
+enum-told : tie.Need-enum-told
+enum-told c = search needs
+
+shape-requires : tie.Need-shape-requires
+shape-requires c κs = (first (c .before .before .before) .count, of-length _ _ _ (first (c .before .before .before)) _ (c .before .before .outcome .ensures) (c .enum-told .given .1))
+
+codes-outcome-requires : tie.Need-codes-outcome-requires
+codes-outcome-requires c κs = search needs
+
+enum-known-why-2 : tie.Need-enum-known-why-2
+enum-known-why-2 c = search needs
+
+refused-requires-3 : tie.Need-refused-requires-3
+refused-requires-3 c κs = search needs
 
 returns-3 : tie.Need-returns-3
-returns-3 c = refused-of-kind _ _ _ (c .before .before .before .before .before .kind-at .ensures) (c .before .before .before .before .outcome .ensures) _ _ (c .before .before .why .given .1) (c .refused2 .ensures)
+returns-3 c = codes-refused _ _ _ (first (c .before .before .before .before .before .before .before .before .before)) _ (c .before .before .before .before .before .before .before .before .outcome .ensures) _ (c .before .before .before .before .before .before .enum-told .given .1) (c .before .before .before .before .before .shape .ensures) _ (c .before .before .before .before .codes-outcome .ensures) _ _ (c .before .before .why2 .given .1) (c .refused3 .ensures)
+
+enum-told-2 : tie.Need-enum-told-2
+enum-told-2 c = search needs
+
+returns-4 : tie.Need-returns-4
+returns-4 c = done-read _ _ _ (first (c .before .before .before .before .before .before .before)) _ (c .before .before .before .before .before .before .outcome .ensures) _ (c .before .before .before .before .enum-told .given .1) (c .before .before .before .shape .ensures) _ (c .before .before .codes-outcome .ensures) (c .enum-told2 .given .1)
 
 pub read-shape-spec : {M : Type 1} → statement M
 read-shape-spec =
@@ -44,11 +67,17 @@ read-shape-spec =
     (tie.spec
     refused-requires
     returns
-    kind-at-requires
+    octet-requires
+    kind-of-requires
     outcome-requires
-    enum-told
-    shape-requires
     enum-known-why
     refused-requires-2
     returns-2
-    returns-3)
+    enum-told
+    shape-requires
+    codes-outcome-requires
+    enum-known-why-2
+    refused-requires-3
+    returns-3
+    enum-told-2
+    returns-4)

@@ -1,12 +1,23 @@
--- No octets: 1. Else the answer for the octets' kind, and where it is done the record of that kind.
-use borrow.Author.Needs.{needs}
-use mathlib.Core.Path.{refl}
+-- No octets: 1. Else the answer to the form, and where it is done the demand on the record's bearing.
+use Prim.Native.Nat.{_<_}
+use mathlib.Core.Path.{_≡_, refl}
 use native.Mathlib.Omega.{arith}
+use lib.ListN.{length}
 use denote.Ref.{now}
 use Rattle.ground.specs.Answers.{unmet}
-use Rattle.velocities.proofs.ReadLaws.{refused-read, of-length, done-read, refused-of-kind}
+use Rattle.layout.specs.Velocities.{velocityKindIn}
+use Rattle.velocities.proofs.FirstOctet.{kind-in}
+use Rattle.velocities.proofs.ReadLaws.{refused-read, form-refused, of-length, bearing-refused, done-read}
+use borrow.Author.Needs.{needs}
 use Rattle.velocities.proofs.read_velocity.Statement.{statement}
 use Rattle.velocities.proofs.read_velocity.Tie as tie
+
+-- what the first octet says
+some : (c : tie.After-kind-of) → 0 < length (now (c .before .before .before .before .args .s))
+some c = omega (arith, c .before .before .if1 .left)
+
+kind : (c : tie.After-kind-of) → c .kind-of .result ≡ velocityKindIn (now (c .before .before .before .before .args .s))
+kind c = kind-in _ _ (c .before .octet .ensures) _ (c .kind-of .ensures)
 
 refused-requires : tie.Need-refused-requires
 refused-requires c κs = search needs
@@ -14,17 +25,14 @@ refused-requires c κs = search needs
 returns : tie.Need-returns
 returns c = refused-read (now (c .before .before .before .args .s)) _ _ (unmet (λ h. absurd (omega (arith, h, c .before .if1 .taken))) refl) (c .refused .ensures)
 
-kind-at-requires : tie.Need-kind-at-requires
-kind-at-requires c κs = search needs
+octet-requires : tie.Need-octet-requires
+octet-requires c κs = search needs
+
+kind-of-requires : tie.Need-kind-of-requires
+kind-of-requires c κs = search needs
 
 of-message-requires : tie.Need-of-message-requires
 of-message-requires c κs = search needs
-
-enum-told : tie.Need-enum-told
-enum-told c = search needs
-
-velocity-requires : tie.Need-velocity-requires
-velocity-requires c κs = of-length _ _ _ (c .before .before .before .kind-at .ensures) (c .before .before .of-message .ensures) (c .enum-told .given .1)
 
 enum-known-why : tie.Need-enum-known-why
 enum-known-why c = search needs
@@ -33,10 +41,22 @@ refused-requires-2 : tie.Need-refused-requires-2
 refused-requires-2 c κs = search needs
 
 returns-2 : tie.Need-returns-2
-returns-2 c = done-read _ _ _ (c .before .before .before .before .kind-at .ensures) (c .before .before .before .of-message .ensures) _ (c .before .enum-told .given .1) (c .velocity .ensures)
+returns-2 c = form-refused _ _ (some (c .before .before .before .before .before)) (kind (c .before .before .before .before .before)) _ (c .before .before .before .before .of-message .ensures) _ _ (c .before .before .why .given .1) (c .refused2 .ensures)
+
+enum-told : tie.Need-enum-told
+enum-told c = search needs
+
+velocity-requires : tie.Need-velocity-requires
+velocity-requires c κs = (c .before .before .before .before .octet .ensures, of-length _ _ (some (c .before .before .before)) (kind (c .before .before .before)) _ (c .before .before .of-message .ensures) (c .enum-told .given .1))
+
+refused-requires-3 : tie.Need-refused-requires-3
+refused-requires-3 c κs = search needs
 
 returns-3 : tie.Need-returns-3
-returns-3 c = refused-of-kind _ _ _ (c .before .before .before .before .before .kind-at .ensures) (c .before .before .before .before .of-message .ensures) _ _ (c .before .before .why .given .1) (c .refused2 .ensures)
+returns-3 c = bearing-refused _ _ (some (c .before .before .before .before .before .before .before)) (kind (c .before .before .before .before .before .before .before)) _ (c .before .before .before .before .before .before .of-message .ensures) _ (c .before .before .before .before .enum-told .given .1) (c .before .before .before .velocity .ensures) _ (omega (arith, c .before .if2 .taken)) (c .refused3 .ensures)
+
+returns-4 : tie.Need-returns-4
+returns-4 c = done-read _ _ (some (c .before .before .before .before .before .before)) (kind (c .before .before .before .before .before .before)) _ (c .before .before .before .before .before .of-message .ensures) _ (c .before .before .before .enum-told .given .1) (c .before .before .velocity .ensures) (omega (arith, c .if2 .left))
 
 pub read-velocity-spec : {M : Type 1} → statement M
 read-velocity-spec =
@@ -44,11 +64,14 @@ read-velocity-spec =
     (tie.spec
     refused-requires
     returns
-    kind-at-requires
+    octet-requires
+    kind-of-requires
     of-message-requires
-    enum-told
-    velocity-requires
     enum-known-why
     refused-requires-2
     returns-2
-    returns-3)
+    enum-told
+    velocity-requires
+    refused-requires-3
+    returns-3
+    returns-4)

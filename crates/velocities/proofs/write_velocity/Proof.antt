@@ -1,43 +1,39 @@
--- The answer to the record, and where it is done its message.
-use borrow.Author.Needs.{needs}
+-- The answer is what `of_record` says, and the message is put where it has octets.
+use native.Mathlib.Omega.{arith}
 use denote.Ref.{now}
-use Rattle.velocities.proofs.WriteLaws.{storable, done-write, refused-write}
+use Rattle.layout.specs.Velocities.{velocityValueOf}
+use Rattle.layout.proofs.WriteLaws.{done-answer, done-writes, refused-writes}
+use Rattle.velocities.specs.Writing.{rowsOf}
+use Rattle.velocities.proofs.WriteLaws.{storable}
+use borrow.Author.Needs.{needs}
 use Rattle.velocities.proofs.write_velocity.Statement.{statement}
 use Rattle.velocities.proofs.write_velocity.Tie as tie
-
-length-of-requires : tie.Need-length-of-requires
-length-of-requires c κs = search needs
 
 of-record-requires : tie.Need-of-record-requires
 of-record-requires c κs = search needs
 
-enum-told : tie.Need-enum-told
-enum-told c = search needs
+written-requires : tie.Need-written-requires
+written-requires c κs = search needs
 
 put-requires : tie.Need-put-requires
-put-requires c κs = storable _ (now (c .before .before .before .before .before .before .args .out)) _ (c .before .before .before .of-record .ensures) (c .before .enum-told .given .1)
-
-enum-known-why : tie.Need-enum-known-why
-enum-known-why c = search needs
+put-requires c κs =
+    let a = c .before .before .before .before .before .args in
+    storable (a .velocity) _ (done-answer (rowsOf (a .velocity)) (velocityValueOf (a .velocity)) (now (a .out)) _ (c .before .before .before .of-record .result) (c .before .before .before .of-record .ensures) (c .before .before .written .ensures) (omega (arith, c .before .if1 .taken)))
 
 same-length : tie.Need-same-length
 same-length c = search needs
 
 returns : tie.Need-returns
-returns c = done-write _ (now (c .before .before .before .before .before .before .before .before .before .args .out)) _ (c .before .before .before .before .before .before .of-record .ensures) _ _ (c .before .before .before .before .enum-told .given .1) (c .before .before .before .before .before .before .before .length-of .ensures) (c .before .before .put .ensures)
+returns c =
+    let a = c .before .before .before .before .before .before .before .before .args in
+    done-writes (rowsOf (a .velocity)) (velocityValueOf (a .velocity)) (now (a .out)) _ _ _ (c .before .before .before .before .before .before .of-record .ensures) (c .before .before .before .before .before .written .ensures) (omega (arith, c .before .before .before .before .if1 .taken)) (c .before .before .put .ensures)
 
 returns-2 : tie.Need-returns-2
-returns-2 c = refused-write _ (now (c .before .before .before .before .before .before .args .out)) _ (c .before .before .before .of-record .ensures) _ (c .before .why .given .1)
+returns-2 c =
+    let a = c .before .before .before .before .args in
+    refused-writes (rowsOf (a .velocity)) (velocityValueOf (a .velocity)) (now (a .out)) _ _ (c .before .before .of-record .ensures) (c .before .written .ensures) (omega (arith, c .if1 .left))
 
 pub write-velocity-spec : {M : Type 1} → statement M
 write-velocity-spec =
     tie.close
-    (tie.spec
-    length-of-requires
-    of-record-requires
-    enum-told
-    put-requires
-    enum-known-why
-    same-length
-    returns
-    returns-2)
+    (tie.spec of-record-requires written-requires put-requires same-length returns returns-2)

@@ -12,10 +12,13 @@ returns-2 : tie.Need-returns-2
 returns-2 c = unmet (λ h. absurd (omega (arith, h .1))) refl
 
 returns-3 : tie.Need-returns-3
-returns-3 c = met (omega arith, omega arith) (unmet (λ h. absurd (omega arith)) refl)
+returns-3 c = unmet (λ h. absurd (omega (arith, h .2))) refl
 
 returns-4 : tie.Need-returns-4
-returns-4 c = met (omega arith, omega arith) (met (omega arith) refl)
+returns-4 c = met (omega arith, omega arith, omega arith) (unmet (λ h. absurd (omega arith)) refl)
+
+returns-5 : tie.Need-returns-5
+returns-5 c = met (omega arith, omega arith, omega arith) (met (omega arith) refl)
 
 pub codes-outcome-spec : {M : Type 1} → statement M
-codes-outcome-spec = tie.close (tie.spec returns returns-2 returns-3 returns-4)
+codes-outcome-spec = tie.close (tie.spec returns returns-2 returns-3 returns-4 returns-5)

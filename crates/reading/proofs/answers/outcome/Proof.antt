@@ -1,11 +1,9 @@
--- Each kind's answer, by its law.
+-- Each kind's answer, by the law of its kind.
+use mathlib.Core.Path.{refl}
+use native.Mathlib.Omega.{arith}
+use Rattle.layout.specs.declared.shapes.Kind.the-variants.{Point, Circle, Ellipse, Polygon, AltitudePoint, AltitudeEllipsoid, Arc}
+use Rattle.reading.proofs.AnswerKinds.{of-kind, nothing, by-length}
 use borrow.Author.Needs.{needs}
-use mathlib.Core.Path.{refl, sym, subst}
-use denote.Ref.{now}
-use Rattle.ground.specs.Answers.{outcomeNumber}
-use Rattle.layout.specs.declared.shapes.Kind.{Kind}
-use Rattle.reading.specs.Reading.{KindAnswer}
-use Rattle.reading.proofs.AnswerKinds as answer
 use Rattle.reading.proofs.answers.outcome.Statement.{statement}
 use Rattle.reading.proofs.answers.outcome.Tie as tie
 
@@ -27,8 +25,8 @@ of-length-requires-2 c κs = search needs
 enum-told-4 : tie.Need-enum-told-4
 enum-told-4 c = search needs
 
-coded-requires : tie.Need-coded-requires
-coded-requires c κs = search needs
+of-length-requires-3 : tie.Need-of-length-requires-3
+of-length-requires-3 c κs = search needs
 
 enum-told-5 : tie.Need-enum-told-5
 enum-told-5 c = search needs
@@ -39,44 +37,44 @@ polygon-requires c κs = search needs
 enum-told-6 : tie.Need-enum-told-6
 enum-told-6 c = search needs
 
-of-length-requires-3 : tie.Need-of-length-requires-3
-of-length-requires-3 c κs = search needs
+of-length-requires-4 : tie.Need-of-length-requires-4
+of-length-requires-4 c κs = search needs
 
 enum-told-7 : tie.Need-enum-told-7
 enum-told-7 c = search needs
 
-coded-requires-2 : tie.Need-coded-requires-2
-coded-requires-2 c κs = search needs
+of-length-requires-5 : tie.Need-of-length-requires-5
+of-length-requires-5 c κs = search needs
 
 enum-told-8 : tie.Need-enum-told-8
 enum-told-8 c = search needs
 
-coded-requires-3 : tie.Need-coded-requires-3
-coded-requires-3 c κs = search needs
+of-length-requires-6 : tie.Need-of-length-requires-6
+of-length-requires-6 c κs = search needs
 
 returns : tie.Need-returns
-returns c = subst (λ (k : Kind). KindAnswer k (now (c .before .before .before .args .s)) 2) (sym (c .enum-told .given .1)) (answer.nothing (now (c .before .before .before .args .s)) _ (c .before .before .before .pre) (refl))
+returns c = nothing _ _ _ _ (c .enum-told .given .1) refl
 
 returns-2 : tie.Need-returns-2
-returns-2 c = subst (λ (k : Kind). KindAnswer k (now (c .before .before .before .before .args .s)) (outcomeNumber (c .of-length .result))) (sym (c .before .enum-told2 .given .1)) (answer.point (now (c .before .before .before .before .args .s)) _ (c .before .before .before .before .pre) (c .of-length .ensures))
+returns-2 c = by-length _ _ _ _ Point (c .before .enum-told2 .given .1) (omega arith) refl (c .of-length .ensures)
 
 returns-3 : tie.Need-returns-3
-returns-3 c = subst (λ (k : Kind). KindAnswer k (now (c .before .before .before .before .args .s)) (outcomeNumber (c .of-length2 .result))) (sym (c .before .enum-told3 .given .1)) (answer.circle (now (c .before .before .before .before .args .s)) _ (c .before .before .before .before .pre) (c .of-length2 .ensures))
+returns-3 c = by-length _ _ _ _ Circle (c .before .enum-told3 .given .1) (omega arith) refl (c .of-length2 .ensures)
 
 returns-4 : tie.Need-returns-4
-returns-4 c = subst (λ (k : Kind). KindAnswer k (now (c .before .before .before .before .args .s)) (outcomeNumber (c .coded .result))) (sym (c .before .enum-told4 .given .1)) (answer.ellipse (now (c .before .before .before .before .args .s)) _ (c .before .before .before .before .pre) (c .coded .ensures))
+returns-4 c = by-length _ _ _ _ Ellipse (c .before .enum-told4 .given .1) (omega arith) refl (c .of-length3 .ensures)
 
 returns-5 : tie.Need-returns-5
-returns-5 c = subst (λ (k : Kind). KindAnswer k (now (c .before .before .before .before .args .s)) (outcomeNumber (c .polygon .result))) (sym (c .before .enum-told5 .given .1)) (c .polygon .ensures)
+returns-5 c = of-kind _ _ _ _ Polygon (c .before .enum-told5 .given .1) (c .polygon .ensures)
 
 returns-6 : tie.Need-returns-6
-returns-6 c = subst (λ (k : Kind). KindAnswer k (now (c .before .before .before .before .args .s)) (outcomeNumber (c .of-length3 .result))) (sym (c .before .enum-told6 .given .1)) (answer.altitude-point (now (c .before .before .before .before .args .s)) _ (c .before .before .before .before .pre) (c .of-length3 .ensures))
+returns-6 c = by-length _ _ _ _ AltitudePoint (c .before .enum-told6 .given .1) (omega arith) refl (c .of-length4 .ensures)
 
 returns-7 : tie.Need-returns-7
-returns-7 c = subst (λ (k : Kind). KindAnswer k (now (c .before .before .before .before .args .s)) (outcomeNumber (c .coded2 .result))) (sym (c .before .enum-told7 .given .1)) (answer.altitude-ellipsoid (now (c .before .before .before .before .args .s)) _ (c .before .before .before .before .pre) (c .coded2 .ensures))
+returns-7 c = by-length _ _ _ _ AltitudeEllipsoid (c .before .enum-told7 .given .1) (omega arith) refl (c .of-length5 .ensures)
 
 returns-8 : tie.Need-returns-8
-returns-8 c = subst (λ (k : Kind). KindAnswer k (now (c .before .before .before .before .args .s)) (outcomeNumber (c .coded3 .result))) (sym (c .before .enum-told8 .given .1)) (answer.arc (now (c .before .before .before .before .args .s)) _ (c .before .before .before .before .pre) (c .coded3 .ensures))
+returns-8 c = by-length _ _ _ _ Arc (c .before .enum-told8 .given .1) (omega arith) refl (c .of-length6 .ensures)
 
 pub outcome-spec : {M : Type 1} → statement M
 outcome-spec =
@@ -88,15 +86,15 @@ outcome-spec =
     enum-told-3
     of-length-requires-2
     enum-told-4
-    coded-requires
+    of-length-requires-3
     enum-told-5
     polygon-requires
     enum-told-6
-    of-length-requires-3
+    of-length-requires-4
     enum-told-7
-    coded-requires-2
+    of-length-requires-5
     enum-told-8
-    coded-requires-3
+    of-length-requires-6
     returns
     returns-2
     returns-3

@@ -1,38 +1,26 @@
+-- Each test is one demand, in the order of the demands.
 use mathlib.Core.Path.{refl}
-use Rattle.reading.proofs.AnswerKinds as answer
+use native.Mathlib.Omega.{arith}
+use Rattle.ground.specs.Answers.{unmet, met}
+use Rattle.reading.proofs.AnswerKinds.{few, enough}
 use borrow.Author.Needs.{needs}
 use Rattle.reading.proofs.answers.polygon.Statement.{statement}
 use Rattle.reading.proofs.answers.polygon.Tie as tie
 
-count-at-requires : tie.Need-count-at-requires
-count-at-requires c κs = search needs
+mul-whole : tie.Need-mul-whole
+mul-whole c = search needs
+
+add-whole : tie.Need-add-whole
+add-whole c = search needs
 
 returns : tie.Need-returns
-returns c = answer.few _ _ (c .before .before .before .pre) (rw (c .before .count-at .ensures) at (c .if1 .taken)) refl
-
-cast-length : tie.Need-cast-length
-cast-length c = search needs
-
-mul-length : tie.Need-mul-length
-mul-length c = search needs
-
-add-length : tie.Need-add-length
-add-length c = search needs
-
-of-length-requires : tie.Need-of-length-requires
-of-length-requires c κs = search needs
+returns c = few _ _ _ (omega (arith, c .if1 .taken)) refl
 
 returns-2 : tie.Need-returns-2
-returns-2 c = answer.polygon _ _ (c .before .before .before .before .pre) (rw (c .before .before .count-at .ensures) at (c .before .if1 .left)) (rw (c .before .before .count-at .ensures) at (c .of-length .ensures))
+returns-2 c = enough _ _ _ (c .before .before .pre) (omega (arith, c .before .if1 .left)) (unmet (λ h. absurd (omega (arith, h, c .if2 .taken))) refl)
+
+returns-3 : tie.Need-returns-3
+returns-3 c = enough _ _ _ (c .before .before .pre) (omega (arith, c .before .if1 .left)) (met (omega (arith, c .if2 .left)) refl)
 
 pub polygon-spec : {M : Type 1} → statement M
-polygon-spec =
-    tie.close
-    (tie.spec
-    count-at-requires
-    returns
-    cast-length
-    mul-length
-    add-length
-    of-length-requires
-    returns-2)
+polygon-spec = tie.close (tie.spec mul-whole add-whole returns returns-2 returns-3)

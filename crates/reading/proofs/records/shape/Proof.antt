@@ -33,49 +33,46 @@ enum-told-2 : tie.Need-enum-told-2
 enum-told-2 c = search needs
 
 started-requires : tie.Need-started-requires
-started-requires c κs = omega (arith, long _ _ Point (c .enum-told2 .given .1) (c .before .before .before .pre))
+started-requires c κs = omega (arith, long _ _ Point (c .enum-told2 .given .1) (c .before .before .before .pre .1))
 
 enum-told-3 : tie.Need-enum-told-3
 enum-told-3 c = search needs
 
 circle-requires : tie.Need-circle-requires
-circle-requires c κs = omega (arith, long _ _ Circle (c .enum-told3 .given .1) (c .before .before .before .pre))
+circle-requires c κs = omega (arith, long _ _ Circle (c .enum-told3 .given .1) (c .before .before .before .pre .1))
 
 enum-told-4 : tie.Need-enum-told-4
 enum-told-4 c = search needs
 
 ellipse-requires : tie.Need-ellipse-requires
-ellipse-requires c κs = omega (arith, long _ _ Ellipse (c .enum-told4 .given .1) (c .before .before .before .pre))
+ellipse-requires c κs = omega (arith, long _ _ Ellipse (c .enum-told4 .given .1) (c .before .before .before .pre .1))
 
 enum-told-5 : tie.Need-enum-told-5
 enum-told-5 c = search needs
 
-count-at-requires : tie.Need-count-at-requires
-count-at-requires c κs = omega (arith, polygon-long _ _ (c .enum-told5 .given .1) (c .before .before .before .pre))
-
 polygon-requires : tie.Need-polygon-requires
 polygon-requires c κs =
-    let s = now (c .before .before .before .before .args .s) in
+    let s = now (c .before .before .before .args .s) in
     let few = bits-lt s 4 4 in
-    (omega (arith, c .count-at .ensures), omega (arith, c .count-at .ensures, polygon-long s _ (c .before .enum-told5 .given .1) (c .before .before .before .before .pre)))
+    (omega (arith, c .before .before .before .pre .0), omega (arith, c .before .before .before .pre .0, polygon-long s _ (c .enum-told5 .given .1) (c .before .before .before .pre .1)))
 
 enum-told-6 : tie.Need-enum-told-6
 enum-told-6 c = search needs
 
 levelled-requires : tie.Need-levelled-requires
-levelled-requires c κs = omega (arith, long _ _ AltitudePoint (c .enum-told6 .given .1) (c .before .before .before .pre))
+levelled-requires c κs = omega (arith, long _ _ AltitudePoint (c .enum-told6 .given .1) (c .before .before .before .pre .1))
 
 enum-told-7 : tie.Need-enum-told-7
 enum-told-7 c = search needs
 
 altitude-ellipsoid-requires : tie.Need-altitude-ellipsoid-requires
-altitude-ellipsoid-requires c κs = omega (arith, long _ _ AltitudeEllipsoid (c .enum-told7 .given .1) (c .before .before .before .pre))
+altitude-ellipsoid-requires c κs = omega (arith, long _ _ AltitudeEllipsoid (c .enum-told7 .given .1) (c .before .before .before .pre .1))
 
 enum-told-8 : tie.Need-enum-told-8
 enum-told-8 c = search needs
 
 arc-requires : tie.Need-arc-requires
-arc-requires c κs = omega (arith, long _ _ Arc (c .enum-told8 .given .1) (c .before .before .before .pre))
+arc-requires c κs = omega (arith, long _ _ Arc (c .enum-told8 .given .1) (c .before .before .before .pre .1))
 
 returns : tie.Need-returns
 returns c = c .blank-shape .ensures ∙ sym (ap (λ (k : Kind). recordOf k (now (c .before .before .before .before .args .s))) (c .before .enum-told .given .1))
@@ -91,12 +88,12 @@ returns-4 c = c .ellipse .ensures ∙ sym (ap (λ (k : Kind). recordOf k (now (c
 
 returns-5 : tie.Need-returns-5
 returns-5 c =
-    let s = now (c .before .before .before .before .before .args .s) in
+    let s = now (c .before .before .before .before .args .s) in
     let few = bits-lt s 4 4 in
     c .polygon .ensures
-    ∙ ap (λ (n : ℕ). polygonOf n s) (c .before .count-at .ensures)
+    ∙ ap (λ (n : ℕ). polygonOf n s) (c .before .before .before .before .pre .0)
     ∙ polygon-record s (omega arith)
-    ∙ sym (ap (λ (k : Kind). recordOf k s) (c .before .before .enum-told5 .given .1))
+    ∙ sym (ap (λ (k : Kind). recordOf k s) (c .before .enum-told5 .given .1))
 
 returns-6 : tie.Need-returns-6
 returns-6 c = c .levelled .ensures ∙ sym (ap (λ (k : Kind). recordOf k (now (c .before .before .before .before .args .s))) (c .before .enum-told6 .given .1))
@@ -120,7 +117,6 @@ shape-spec =
     enum-told-4
     ellipse-requires
     enum-told-5
-    count-at-requires
     polygon-requires
     enum-told-6
     levelled-requires

@@ -2,13 +2,15 @@
 use borrow.Author.Needs.{needs}
 use mathlib.Core.Path.{_≡_, sym, subst}
 use mathlib.Core.Bool.{Bool, true}
+use Rattle.ground.specs.Answers.{Decides}
+use Rattle.ground.proofs.AnswerLaws.{decided}
 use Rattle.layout.specs.declared.velocities.VelocityKind.{VelocityKind}
 use Rattle.layout.specs.declared.velocities.Velocity.{Velocity}
 use Rattle.layout.specs.Layout.{velocityRows}
 use Rattle.layout.specs.Demands.{InFields}
 use Rattle.layout.specs.Velocities.{velocityValueOf}
-use Rattle.velocities.specs.Writing.{VelocityInFields, Decides}
-use Rattle.velocities.proofs.UnusedLaws.{Typed, decided, unlisted, horizontal-in, vertical-in, uncertain-in, all-in, horizontal-zero, vertical-zero, uncertain-zero}
+use Rattle.velocities.specs.Writing.{VelocityInFields}
+use Rattle.velocities.proofs.UnusedLaws.{Typed, unlisted, horizontal-in, vertical-in, uncertain-in, all-in, horizontal-zero, vertical-zero, uncertain-zero}
 use Rattle.velocities.proofs.answers.in_fields.Statement.{statement}
 use Rattle.velocities.proofs.answers.in_fields.Tie as tie
 

@@ -3,9 +3,9 @@ use borrow.Author.Needs.{needs}
 use mathlib.Core.Path.{refl}
 use native.Mathlib.Omega.{arith}
 use Rattle.ground.specs.Answers.{unmet, met}
+use Rattle.ground.proofs.AnswerLaws.{shown, refuted}
 use Rattle.layout.specs.Demands.{Listed}
 use Rattle.velocities.specs.Writing.{rowsOf}
-use Rattle.velocities.proofs.UnusedLaws.{passed, failed}
 use Rattle.velocities.proofs.WriteLaws.{listed-write}
 use Rattle.velocities.proofs.answers.of_record.Statement.{statement}
 use Rattle.velocities.proofs.answers.of_record.Tie as tie
@@ -29,19 +29,19 @@ returns-3 : tie.Need-returns-3
 returns-3 c =
     let x = c .before .before .before .before .before .before .args .velocity in
     let l : Listed (rowsOf x) = omega (arith, c .before .before .before .before .if1 .left, c .before .before .before .before .before .length-of .ensures) in
-    listed-write x _ 7 l (met (omega (arith, c .before .before .if2 .left)) (unmet (failed (c .before .in-fields .result) (c .before .in-fields .ensures) (c .if3 .taken)) refl))
+    listed-write x _ 7 l (met (omega (arith, c .before .before .if2 .left)) (unmet (refuted (c .before .in-fields .result) (c .if3 .taken) (c .before .in-fields .ensures)) refl))
 
 returns-4 : tie.Need-returns-4
 returns-4 c =
     let x = c .before .before .before .before .before .before .before .args .velocity in
     let l : Listed (rowsOf x) = omega (arith, c .before .before .before .before .before .if1 .left, c .before .before .before .before .before .before .length-of .ensures) in
-    listed-write x _ 10 l (met (omega (arith, c .before .before .before .if2 .left)) (met (passed (c .before .before .in-fields .result) (c .before .before .in-fields .ensures) (c .before .if3 .left)) (unmet (λ h. absurd (omega (arith, h, c .if4 .taken, c .before .before .before .before .before .before .length-of .ensures))) refl)))
+    listed-write x _ 10 l (met (omega (arith, c .before .before .before .if2 .left)) (met (shown (c .before .before .in-fields .result) (c .before .if3 .left) (c .before .before .in-fields .ensures)) (unmet (λ h. absurd (omega (arith, h, c .if4 .taken, c .before .before .before .before .before .before .length-of .ensures))) refl)))
 
 returns-5 : tie.Need-returns-5
 returns-5 c =
     let x = c .before .before .before .before .before .before .before .args .velocity in
     let l : Listed (rowsOf x) = omega (arith, c .before .before .before .before .before .if1 .left, c .before .before .before .before .before .before .length-of .ensures) in
-    listed-write x _ 0 l (met (omega (arith, c .before .before .before .if2 .left)) (met (passed (c .before .before .in-fields .result) (c .before .before .in-fields .ensures) (c .before .if3 .left)) (met (omega (arith, c .if4 .left, c .before .before .before .before .before .before .length-of .ensures)) refl)))
+    listed-write x _ 0 l (met (omega (arith, c .before .before .before .if2 .left)) (met (shown (c .before .before .in-fields .result) (c .before .if3 .left) (c .before .before .in-fields .ensures)) (met (omega (arith, c .if4 .left, c .before .before .before .before .before .before .length-of .ensures)) refl)))
 
 pub of-record-spec : {M : Type 1} → statement M
 of-record-spec =

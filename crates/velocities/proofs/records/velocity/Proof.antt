@@ -25,34 +25,34 @@ enum-told-2 : tie.Need-enum-told-2
 enum-told-2 c = search needs
 
 motion-requires : tie.Need-motion-requires
-motion-requires c κs = omega (arith, long (now (c .before .before .before .args .s)) _ Horizontal (c .enum-told2 .given .1) (c .before .before .before .pre))
+motion-requires c κs = (c .before .before .before .pre .0, omega (arith, long (now (c .before .before .before .args .s)) _ Horizontal (c .enum-told2 .given .1) (c .before .before .before .pre .1)))
 
 enum-told-3 : tie.Need-enum-told-3
 enum-told-3 c = search needs
 
 vertical-requires : tie.Need-vertical-requires
-vertical-requires c κs = omega (arith, long (now (c .before .before .before .args .s)) _ HorizontalVertical (c .enum-told3 .given .1) (c .before .before .before .pre))
+vertical-requires c κs = (c .before .before .before .pre .0, omega (arith, long (now (c .before .before .before .args .s)) _ HorizontalVertical (c .enum-told3 .given .1) (c .before .before .before .pre .1)))
 
 enum-told-4 : tie.Need-enum-told-4
 enum-told-4 c = search needs
 
 motion-requires-2 : tie.Need-motion-requires-2
-motion-requires-2 c κs = omega (arith, long (now (c .before .before .before .args .s)) _ HorizontalUncertain (c .enum-told4 .given .1) (c .before .before .before .pre))
+motion-requires-2 c κs = (c .before .before .before .pre .0, omega (arith, long (now (c .before .before .before .args .s)) _ HorizontalUncertain (c .enum-told4 .given .1) (c .before .before .before .pre .1)))
 
 octet-requires : tie.Need-octet-requires
-octet-requires c κs = omega (arith, long (now (c .before .before .before .before .args .s)) _ HorizontalUncertain (c .before .enum-told4 .given .1) (c .before .before .before .before .pre))
+octet-requires c κs = omega (arith, long (now (c .before .before .before .before .args .s)) _ HorizontalUncertain (c .before .enum-told4 .given .1) (c .before .before .before .before .pre .1))
 
 enum-told-5 : tie.Need-enum-told-5
 enum-told-5 c = search needs
 
 vertical-requires-2 : tie.Need-vertical-requires-2
-vertical-requires-2 c κs = omega (arith, long (now (c .before .before .before .args .s)) _ HorizontalVerticalUncertain (c .enum-told5 .given .1) (c .before .before .before .pre))
+vertical-requires-2 c κs = (c .before .before .before .pre .0, omega (arith, long (now (c .before .before .before .args .s)) _ HorizontalVerticalUncertain (c .enum-told5 .given .1) (c .before .before .before .pre .1)))
 
 octet-requires-2 : tie.Need-octet-requires-2
-octet-requires-2 c κs = omega (arith, long (now (c .before .before .before .before .args .s)) _ HorizontalVerticalUncertain (c .before .enum-told5 .given .1) (c .before .before .before .before .pre))
+octet-requires-2 c κs = omega (arith, long (now (c .before .before .before .before .args .s)) _ HorizontalVerticalUncertain (c .before .enum-told5 .given .1) (c .before .before .before .before .pre .1))
 
 octet-requires-3 : tie.Need-octet-requires-3
-octet-requires-3 c κs = omega (arith, long (now (c .before .before .before .before .before .args .s)) _ HorizontalVerticalUncertain (c .before .before .enum-told5 .given .1) (c .before .before .before .before .before .pre))
+octet-requires-3 c κs = omega (arith, long (now (c .before .before .before .before .before .args .s)) _ HorizontalVerticalUncertain (c .before .before .enum-told5 .given .1) (c .before .before .before .before .before .pre .1))
 
 returns : tie.Need-returns
 returns c = c .blank-velocity .ensures ∙ sym (ap (λ (k : VelocityKind). recordOf k (now (c .before .before .before .before .args .s))) (c .before .enum-told .given .1))

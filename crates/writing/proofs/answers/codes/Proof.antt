@@ -1,5 +1,4 @@
 -- Each kind by its law.
-use borrow.Author.Needs.{needs}
 use Rattle.writing.proofs.DemandLaws.{nothing-codes, point-codes, circle-codes, ellipse-codes, polygon-codes, altitude-point-codes, ellipsoid-codes, arc-codes}
 use Rattle.writing.proofs.answers.codes.Statement.{statement}
 use Rattle.writing.proofs.answers.codes.Tie as tie

@@ -1,9 +1,8 @@
 -- Each test is one demand.
 use mathlib.Core.Path.{refl}
-use borrow.Author.Needs.{needs}
 use native.Mathlib.Omega.{arith}
 use Rattle.ground.specs.Answers.{unmet, met}
-use Rattle.writing.proofs.LimitLaws.{shown, refuted}
+use Rattle.ground.proofs.AnswerLaws.{shown, refuted}
 use Rattle.writing.proofs.answers.fitted.Statement.{statement}
 use Rattle.writing.proofs.answers.fitted.Tie as tie
 

@@ -1,5 +1,4 @@
 -- The two parts of the answer.
-use borrow.Author.Needs.{needs}
 use Rattle.layout.specs.Shapes.{rowsOf, valueOf}
 use Rattle.writing.proofs.DemandLaws.{whole, refused}
 use Rattle.writing.proofs.answers.outcome.Statement.{statement}

@@ -1,5 +1,5 @@
-use borrow.Author.Needs.{needs}
-use Rattle.writing.proofs.LimitLaws.{shown, refuted, decided, narrow, fixed-within, points-within, in-fields}
+use Rattle.ground.proofs.AnswerLaws.{shown, refuted, decided}
+use Rattle.writing.proofs.LimitLaws.{narrow, fixed-within, points-within, in-fields}
 use Rattle.writing.proofs.limits.in_fields.Statement.{statement}
 use Rattle.writing.proofs.limits.in_fields.Tie as tie
 

@@ -1,5 +1,4 @@
 -- Each row is the layout table's.
-use borrow.Author.Needs.{needs}
 use Rattle.writing.proofs.limits.widths_of.Statement.{statement}
 use Rattle.writing.proofs.limits.widths_of.Tie as tie
 

@@ -1,5 +1,4 @@
 -- Sixteen times the type number.
-use borrow.Author.Needs.{needs}
 use Rattle.writing.proofs.messages.first_octet.Statement.{statement}
 use Rattle.writing.proofs.messages.first_octet.Tie as tie
 

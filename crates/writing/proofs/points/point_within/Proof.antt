@@ -1,5 +1,4 @@
 -- Each test is one of the three numbers against its limit.
-use borrow.Author.Needs.{needs}
 use Prim.Native.Nat.{_<_}
 use mathlib.Core.Bool.{Bool, true, false}
 use native.Mathlib.Omega.{arith}

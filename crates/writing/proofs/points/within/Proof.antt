@@ -7,7 +7,8 @@ use lib.Dec.{ltb}
 use lib.ListN.{getD}
 use Rattle.layout.specs.Shapes.{zeroLatitude, zeroLongitude}
 use Rattle.writing.specs.Limits.{PointWithin}
-use Rattle.writing.proofs.LimitLaws.{shown, refuted, all-points}
+use Rattle.ground.proofs.AnswerLaws.{shown, refuted}
+use Rattle.writing.proofs.LimitLaws.{all-points}
 use Rattle.writing.proofs.points.within.Statement.{statement}
 use Rattle.writing.proofs.points.within.Tie as tie
 
