@@ -2,7 +2,7 @@
 use mathlib.Core.Path.{_≡_}
 use mathlib.Core.Bool.{Bool, true, false}
 use mathlib.Core.List.{List}
-use Prim.Native.Nat.{ℕ, _<_}
+use Prim.Native.Nat.{ℕ}
 use lib.Dec.{ltb}
 use lib.ListN.{length, getD}
 use Rattle.ground.specs.Answers.{done, refused}
@@ -34,14 +34,14 @@ abbrev pub CodesPoint : Bool → Nanodegrees → Nanodegrees → PointCoded → 
 CodesPoint used x y (Codes c d) = PointCodes used x y c d
 CodesPoint used x y OutOfRange = PointKept used x y → ⊥
 
--- of fifteen, the first n are used
+-- the first n are used
 abbrev pub PointsKept : List Nanodegrees → List Nanodegrees → ℕ → Type 0
-PointsKept xs ys n = (i : ℕ) → i < 15 → PointKept (ltb i n) (getD xs i zeroDegrees) (getD ys i zeroDegrees)
+PointsKept xs ys n = (i : ℕ) → PointKept (ltb i n) (getD xs i zeroDegrees) (getD ys i zeroDegrees)
 
 pub record PointsCodes (xs ys : List Nanodegrees) (n : ℕ) (r : Points) : Type 0 where
   pub all-latitudes : length (r .latitudes) ≡ 15
   pub all-longitudes : length (r .longitudes) ≡ 15
-  pub each : (i : ℕ) → i < 15 → PointCodes (ltb i n) (getD xs i zeroDegrees) (getD ys i zeroDegrees) (getD (r .latitudes) i zeroLatitude) (getD (r .longitudes) i zeroLongitude)
+  pub each : (i : ℕ) → PointCodes (ltb i n) (getD xs i zeroDegrees) (getD ys i zeroDegrees) (getD (r .latitudes) i zeroLatitude) (getD (r .longitudes) i zeroLongitude)
 
 pub record CodesPoints (xs ys : List Nanodegrees) (n : ℕ) (r : Points) : Type 0 where
   pub coded : r .«in_range» ≡ true → PointsCodes xs ys n r

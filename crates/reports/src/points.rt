@@ -32,8 +32,8 @@ pub fn longitudes(codes: [LongitudeCode; 15], n: u8) -> [Nanodegrees; 15]
     let end = n as usize;
     let mut i = 0;
     while i < end {
-        let code = codes[i];
-        reported[i] = spoken::longitude(code);
+        let turn = codes[i];
+        reported[i] = spoken::longitude(turn);
         i += 1;
     }
     reported

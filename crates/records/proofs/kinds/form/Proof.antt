@@ -1,80 +1,66 @@
+-- Each kind by its law.
+use mathlib.Core.Path.{refl}
+use native.Mathlib.Omega.{arith}
+use Rattle.ground.specs.Answers.{unmet, met}
+use Rattle.layout.specs.declared.shapes.Kind.the-variants.{Point, Circle, Ellipse, AltitudePoint, AltitudeEllipsoid, Arc}
+use Rattle.records.proofs.FormLaws.{nothing-form, plain-form, polygon-form}
 use borrow.Author.Needs.{needs}
 use Rattle.records.proofs.kinds.form.Statement.{statement}
 use Rattle.records.proofs.kinds.form.Tie as tie
-use Rattle.records.proofs.kinds.form.Reads as reads
-use Rattle.records.proofs.kinds.form.Lts as lts
 
--- src/kinds.rt:36:43
 enum-told : tie.Need-enum-told
 enum-told c = search needs
 
--- src/kinds.rt:37:24
 enum-told-2 : tie.Need-enum-told-2
 enum-told-2 c = search needs
 
--- src/kinds.rt:38:25
 enum-told-3 : tie.Need-enum-told-3
 enum-told-3 c = search needs
 
--- src/kinds.rt:39:26
 enum-told-4 : tie.Need-enum-told-4
 enum-told-4 c = search needs
 
--- src/kinds.rt:41:16
 enum-told-5 : tie.Need-enum-told-5
 enum-told-5 c = search needs
 
--- src/kinds.rt:42:17
 returns : tie.Need-returns
-returns c = ?
+returns c = polygon-form _ _ 4 (c .before .enum-told5 .given .1) (unmet (λ h. absurd (omega (arith, h .0))) refl)
 
--- src/kinds.rt:45:17
 returns-2 : tie.Need-returns-2
-returns-2 c = ?
+returns-2 c = polygon-form _ _ 4 (c .before .before .enum-told5 .given .1) (unmet (λ h. absurd (omega (arith, h .1))) refl)
 
--- src/kinds.rt:49:32
 enum-told-6 : tie.Need-enum-told-6
 enum-told-6 c = search needs
 
--- src/kinds.rt:50:36
 enum-told-7 : tie.Need-enum-told-7
 enum-told-7 c = search needs
 
--- src/kinds.rt:51:22
 enum-told-8 : tie.Need-enum-told-8
 enum-told-8 c = search needs
 
--- src/kinds.rt:32:1
 returns-3 : tie.Need-returns-3
-returns-3 c = ?
+returns-3 c = nothing-form _ _ (c .enum-told .given .1)
 
--- src/kinds.rt:32:1
 returns-4 : tie.Need-returns-4
-returns-4 c = ?
+returns-4 c = plain-form _ _ Point (c .enum-told2 .given .1) (omega arith) refl
 
--- src/kinds.rt:32:1
 returns-5 : tie.Need-returns-5
-returns-5 c = ?
+returns-5 c = plain-form _ _ Circle (c .enum-told3 .given .1) (omega arith) refl
 
--- src/kinds.rt:32:1
 returns-6 : tie.Need-returns-6
-returns-6 c = ?
+returns-6 c = plain-form _ _ Ellipse (c .enum-told4 .given .1) (omega arith) refl
 
--- src/kinds.rt:32:1
 returns-7 : tie.Need-returns-7
-returns-7 c = ?
+returns-7 c = polygon-form _ _ 0 (c .before .before .enum-told5 .given .1) (met (omega arith, omega arith) refl)
 
--- src/kinds.rt:32:1
 returns-8 : tie.Need-returns-8
-returns-8 c = ?
+returns-8 c = plain-form _ _ AltitudePoint (c .enum-told6 .given .1) (omega arith) refl
 
--- src/kinds.rt:32:1
 returns-9 : tie.Need-returns-9
-returns-9 c = ?
+returns-9 c = plain-form _ _ AltitudeEllipsoid (c .enum-told7 .given .1) (omega arith) refl
 
--- src/kinds.rt:32:1
 returns-10 : tie.Need-returns-10
-returns-10 c = ?
+returns-10 c = plain-form _ _ Arc (c .enum-told8 .given .1) (omega arith) refl
 
 pub form-spec : {M : Type 1} → statement M
 form-spec =

@@ -1,28 +1,23 @@
+-- What is used may be any uncertainty; one that isn't is the speed zero, and not missing.
 use borrow.Author.Needs.{needs}
+use Rattle.records.proofs.TestLaws.{never, idle-speed, no-missing}
 use Rattle.records.proofs.motions.idle_speed.Statement.{statement}
 use Rattle.records.proofs.motions.idle_speed.Tie as tie
-use Rattle.records.proofs.motions.idle_speed.Reads as reads
-use Rattle.records.proofs.motions.idle_speed.Lts as lts
 
--- src/motions.rt:98:9
 returns : tie.Need-returns
-returns c = ?
+returns c = never (c .if1 .taken)
 
--- src/motions.rt:101:33
 enum-known-uncertainty : tie.Need-enum-known-uncertainty
 enum-known-uncertainty c = search needs
 
--- src/motions.rt:102:38
 enum-told : tie.Need-enum-told
 enum-told c = search needs
 
--- src/motions.rt:94:1
 returns-2 : tie.Need-returns-2
-returns-2 c = ?
+returns-2 c = idle-speed (c .before .before .before .before .if1 .left) (c .before .before .before .before .before .args .uncertainty) (c .before .before .uncertainty .given .0 .0) (c .before .before .uncertainty .given .1)
 
--- src/motions.rt:94:1
 returns-3 : tie.Need-returns-3
-returns-3 c = ?
+returns-3 c = no-missing (c .before .before .if1 .left) (c .before .before .before .args .uncertainty) (c .enum-told .given .1)
 
 pub idle-speed-spec : {M : Type 1} → statement M
 idle-speed-spec = tie.close (tie.spec returns enum-known-uncertainty enum-told returns-2 returns-3)

@@ -1,15 +1,14 @@
+-- What is used may be any quantity; the test is made of one that isn't.
+use borrow.Author.Needs.{needs}
+use Rattle.records.proofs.TestLaws.{never, idle-vertical}
 use Rattle.records.proofs.motions.idle_vertical.Statement.{statement}
 use Rattle.records.proofs.motions.idle_vertical.Tie as tie
-use Rattle.records.proofs.motions.idle_vertical.Reads as reads
-use Rattle.records.proofs.motions.idle_vertical.Lts as lts
 
--- src/motions.rt:89:9
 returns : tie.Need-returns
-returns c = ?
+returns c = never (c .if1 .taken)
 
--- src/motions.rt:85:1
 returns-2 : tie.Need-returns-2
-returns-2 c = ?
+returns-2 c = idle-vertical (c .before .before .if1 .left) (c .before .before .before .args .speed) (search needs)
 
 pub idle-vertical-spec : {M : Type 1} → statement M
 idle-vertical-spec = tie.close (tie.spec returns returns-2)

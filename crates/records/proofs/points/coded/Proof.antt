@@ -1,82 +1,93 @@
+-- Each point passed has its codes in the arrays.
+use Prim.Native.Nat.{ℕ, _-_, _≤_, _<_}
+use mathlib.Core.Path.{_≡_, refl, _∙_}
+use mathlib.Core.Bool.{true}
+use native.Mathlib.Omega.{arith}
+use borrow.Author.Needs.{needs}
+use lib.ListN.{length, length-set}
+use Rattle.records.proofs.TestLaws.{never}
+use Rattle.records.proofs.PointLaws.{CodesAt, one-more, all-points}
 use Rattle.records.proofs.points.coded.Statement.{statement}
 use Rattle.records.proofs.points.coded.Tie as tie
-use Rattle.records.proofs.points.coded.Reads as reads
-use Rattle.records.proofs.points.coded.Lts as lts
-use Rattle.records.proofs.points.point.Reads as point-reads
 
 abbrev Inv-loop : tie.InvT-loop
-Inv-loop n latitudes longitudes points₀ end i₀ points i = ?
+Inv-loop n latitudes longitudes points₀ end i₀ points i = (i ≤ 15) × (points .«in_range» ≡ true) × (length (points .latitudes) ≡ 15) × (length (points .longitudes) ≡ 15) × ((k : ℕ) → k < i → CodesAt latitudes longitudes n (points .latitudes) (points .longitudes) k)
 
 abbrev μ-loop : tie.MeasureT-loop
-μ-loop n latitudes longitudes points₀ end i₀ points i = ?
+μ-loop n latitudes longitudes points₀ end i₀ points i = 15 - i
 
--- src/points.rt:32:5
 loop-holds : tie.Need-loop-holds Inv-loop μ-loop
-loop-holds c = ?
+loop-holds c = (omega arith, refl, refl, refl, λ k h. absurd (omega arith))
 
--- src/points.rt:33:24
 mul-latitude : tie.Need-mul-latitude Inv-loop μ-loop
-mul-latitude c = ?
+mul-latitude c = search needs
 
--- src/points.rt:33:24
 array-copy-out-latitude : tie.Need-array-copy-out-latitude Inv-loop μ-loop
-array-copy-out-latitude c = ?
+array-copy-out-latitude c = search needs
 
--- src/points.rt:34:25
 mul-longitude : tie.Need-mul-longitude Inv-loop μ-loop
-mul-longitude c = ?
+mul-longitude c = search needs
 
--- src/points.rt:34:25
 array-copy-out-longitude : tie.Need-array-copy-out-longitude Inv-loop μ-loop
-array-copy-out-longitude c = ?
+array-copy-out-longitude c = search needs
 
--- src/points.rt:35:64
 point-requires : tie.Need-point-requires Inv-loop μ-loop
-point-requires c κs = ?
+point-requires c κs = tt
 
--- src/points.rt:35:31
 enum-known-latitude-code : tie.Need-enum-known-latitude-code Inv-loop μ-loop
-enum-known-latitude-code c = ?
+enum-known-latitude-code c = c .match .keys1
 
--- src/points.rt:37:13
 enum-told : tie.Need-enum-told Inv-loop μ-loop
-enum-told c = ?
+enum-told c = c .match .keys2
 
--- src/points.rt:38:13
 returns : tie.Need-returns Inv-loop μ-loop
-returns c = ?
+returns c = record {
+  coded = λ e. never e refl;
+  out = λ _ k. (rw (c .enum-told .given .1) at (c .before .before .point .ensures)) (k (c .before .before .before .before .before .before .loop .i));
+}
 
--- src/points.rt:40:9
 mul-latitude-code : tie.Need-mul-latitude-code Inv-loop μ-loop
-mul-latitude-code c = ?
+mul-latitude-code c = search needs
 
--- src/points.rt:40:9
 element-set-from-latitude-code : tie.Need-element-set-from-latitude-code Inv-loop μ-loop
-element-set-from-latitude-code c = ?
+element-set-from-latitude-code c = search needs
 
--- src/points.rt:41:9
 mul-longitude-code : tie.Need-mul-longitude-code Inv-loop μ-loop
-mul-longitude-code c = ?
+mul-longitude-code c = search needs
 
--- src/points.rt:41:9
 element-set-from-longitude-code : tie.Need-element-set-from-longitude-code Inv-loop μ-loop
-element-set-from-longitude-code c = ?
+element-set-from-longitude-code c = search needs
 
--- src/points.rt:42:9
 add-i : tie.Need-add-i Inv-loop μ-loop
-add-i c = ?
+add-i c = search needs
 
--- src/points.rt:32:5
 loop-less : tie.Need-loop-less Inv-loop μ-loop
-loop-less c = ?
+loop-less c = search needs
 
--- src/points.rt:32:5
 loop-again : tie.Need-loop-again Inv-loop μ-loop
-loop-again c = ?
+loop-again c =
+    let a = c .before .before .before .before .before .before .before .before .args in
+    let l = c .before .before .before .before .before .before .before .loop in
+    let p = c .before .latitude-code .given in (
+      omega arith,
+      l .inv .1,
+      length-set (l .points .latitudes) (l .i) (p .0 .0) ∙ l .inv .2,
+      length-set (l .points .longitudes) (l .i) (p .0 .1 .0) ∙ l .inv .3,
+      one-more (a .t1) (a .t2) (a .n) (l .points .latitudes) (l .points .longitudes) (l .inv .2) (l .inv .3) (l .i) (p .0 .0) (p .0 .1 .0) (omega arith) (l .inv .4) (rw (p .1) at (c .before .before .before .point .ensures)),
+    )
 
--- src/points.rt:22:1
 returns-2 : tie.Need-returns-2 Inv-loop μ-loop
-returns-2 c = ?
+returns-2 c =
+    let a = c .before .before .args in
+    let l = c .before .loop in
+    record {
+      coded = λ _. record {
+        all-latitudes = l .inv .2;
+        all-longitudes = l .inv .3;
+        each = all-points (a .t1) (a .t2) (a .n) (l .points .latitudes) (l .points .longitudes) (l .inv .2) (l .inv .3) (search needs) (search needs) (λ k h. l .inv .4 k (omega arith));
+      };
+      out = never (l .inv .1);
+    }
 
 pub coded-spec : {M : Type 1} → statement M
 coded-spec =

@@ -1,78 +1,64 @@
+-- Each code is found, or its quantity is above what the largest covers.
+use mathlib.Core.Path.{refl}
 use borrow.Author.Needs.{needs}
 use Rattle.records.proofs.sizes.coded.Statement.{statement}
 use Rattle.records.proofs.sizes.coded.Tie as tie
-use Rattle.records.proofs.sizes.coded.Reads as reads
-use Rattle.records.proofs.sizes.coded.Lts as lts
-use Rattle.radii.proofs.altitude_uncertainty_code.Reads as altitude-uncertainty-code-reads
-use Rattle.radii.proofs.uncertainty_code.Reads as uncertainty-code-reads
 
--- src/sizes.rt:24:47
 uncertainty-code-requires : tie.Need-uncertainty-code-requires
 uncertainty-code-requires c κs = search needs
 
--- src/sizes.rt:24:32
 enum-known-uncertainty : tie.Need-enum-known-uncertainty
 enum-known-uncertainty c = search needs
 
--- src/sizes.rt:25:9
 enum-told : tie.Need-enum-told
 enum-told c = search needs
 
--- src/sizes.rt:25:9
 returns : tie.Need-returns
-returns c = ?
+returns c = λ k. k .uncertainties (refl, (rw (c .enum-told .given .1) at (c .before .before .uncertainty-code .ensures)) .1)
 
--- src/sizes.rt:27:46
 uncertainty-code-requires-2 : tie.Need-uncertainty-code-requires-2
 uncertainty-code-requires-2 c κs = search needs
 
--- src/sizes.rt:27:32
 enum-known-semi-major : tie.Need-enum-known-semi-major
 enum-known-semi-major c = search needs
 
--- src/sizes.rt:28:9
 enum-told-2 : tie.Need-enum-told-2
 enum-told-2 c = search needs
 
--- src/sizes.rt:28:9
 returns-2 : tie.Need-returns-2
-returns-2 c = ?
+returns-2 c = λ k. k .semi-majors (refl, (rw (c .enum-told2 .given .1) at (c .before .before .uncertainty-code2 .ensures)) .1)
 
--- src/sizes.rt:30:46
 uncertainty-code-requires-3 : tie.Need-uncertainty-code-requires-3
 uncertainty-code-requires-3 c κs = search needs
 
--- src/sizes.rt:30:32
 enum-known-semi-minor : tie.Need-enum-known-semi-minor
 enum-known-semi-minor c = search needs
 
--- src/sizes.rt:31:9
 enum-told-3 : tie.Need-enum-told-3
 enum-told-3 c = search needs
 
--- src/sizes.rt:31:9
 returns-3 : tie.Need-returns-3
-returns-3 c = ?
+returns-3 c = λ k. k .semi-minors (refl, (rw (c .enum-told3 .given .1) at (c .before .before .uncertainty-code3 .ensures)) .1)
 
--- src/sizes.rt:33:64
 altitude-uncertainty-code-requires : tie.Need-altitude-uncertainty-code-requires
 altitude-uncertainty-code-requires c κs = search needs
 
--- src/sizes.rt:33:40
 enum-known-altitude-uncertainty : tie.Need-enum-known-altitude-uncertainty
 enum-known-altitude-uncertainty c = search needs
 
--- src/sizes.rt:36:9
 enum-told-4 : tie.Need-enum-told-4
 enum-told-4 c = search needs
 
--- src/sizes.rt:36:9
 returns-4 : tie.Need-returns-4
-returns-4 c = ?
+returns-4 c = λ k. k .altitude-uncertainties (refl, (rw (c .enum-told4 .given .1) at (c .before .before .altitude-uncertainty-code .ensures)) .1)
 
--- src/sizes.rt:21:1
 returns-5 : tie.Need-returns-5
-returns-5 c = ?
+returns-5 c = record {
+  uncertainties = rw (c .before .before .before .before .before .before .before .before .before .before .before .before .before .uncertainty .given .1) at (c .before .before .before .before .before .before .before .before .before .before .before .before .before .before .before .uncertainty-code .ensures);
+  semi-majors = rw (c .before .before .before .before .before .before .before .before .before .semi-major .given .1) at (c .before .before .before .before .before .before .before .before .before .before .before .uncertainty-code2 .ensures);
+  semi-minors = rw (c .before .before .before .before .before .semi-minor .given .1) at (c .before .before .before .before .before .before .before .uncertainty-code3 .ensures);
+  altitude-uncertainties = rw (c .before .altitude-uncertainty .given .1) at (c .before .before .before .altitude-uncertainty-code .ensures);
+}
 
 pub coded-spec : {M : Type 1} → statement M
 coded-spec =

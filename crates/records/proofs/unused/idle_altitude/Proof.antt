@@ -1,15 +1,14 @@
+-- What is used may be any quantity; the test is made of one that isn't.
+use borrow.Author.Needs.{needs}
+use Rattle.records.proofs.TestLaws.{never, idle-altitude}
 use Rattle.records.proofs.unused.idle_altitude.Statement.{statement}
 use Rattle.records.proofs.unused.idle_altitude.Tie as tie
-use Rattle.records.proofs.unused.idle_altitude.Reads as reads
-use Rattle.records.proofs.unused.idle_altitude.Lts as lts
 
--- src/unused.rt:82:9
 returns : tie.Need-returns
-returns c = ?
+returns c = never (c .if1 .taken)
 
--- src/unused.rt:78:1
 returns-2 : tie.Need-returns-2
-returns-2 c = ?
+returns-2 c = idle-altitude (c .before .before .if1 .left) (c .before .before .before .args .x) (search needs)
 
 pub idle-altitude-spec : {M : Type 1} → statement M
 idle-altitude-spec = tie.close (tie.spec returns returns-2)

@@ -1,26 +1,21 @@
+-- What is used may be any confidence; one that isn't is missing.
 use borrow.Author.Needs.{needs}
+use Rattle.records.proofs.TestLaws.{never, no-confidence}
 use Rattle.records.proofs.unused.idle_confidence.Statement.{statement}
 use Rattle.records.proofs.unused.idle_confidence.Tie as tie
-use Rattle.records.proofs.unused.idle_confidence.Reads as reads
-use Rattle.records.proofs.unused.idle_confidence.Lts as lts
 
--- src/unused.rt:91:9
 returns : tie.Need-returns
-returns c = ?
+returns c = never (c .if1 .taken)
 
--- src/unused.rt:94:35
 enum-told : tie.Need-enum-told
 enum-told c = search needs
 
--- src/unused.rt:95:32
 enum-told-2 : tie.Need-enum-told-2
 enum-told-2 c = search needs
 
--- src/unused.rt:87:1
 returns-2 : tie.Need-returns-2
-returns-2 c = ?
+returns-2 c = no-confidence (c .before .before .if1 .left) (c .before .before .before .args .confidence) (c .enum-told .given .0 .0) (c .enum-told .given .1)
 
--- src/unused.rt:87:1
 returns-3 : tie.Need-returns-3
 returns-3 c = search needs
 

@@ -1,15 +1,14 @@
+-- What is used may be any quantity; the test is made of one that isn't.
+use borrow.Author.Needs.{needs}
+use Rattle.records.proofs.TestLaws.{never, idle-degrees}
 use Rattle.records.proofs.unused.idle_degrees.Statement.{statement}
 use Rattle.records.proofs.unused.idle_degrees.Tie as tie
-use Rattle.records.proofs.unused.idle_degrees.Reads as reads
-use Rattle.records.proofs.unused.idle_degrees.Lts as lts
 
--- src/unused.rt:73:9
 returns : tie.Need-returns
-returns c = ?
+returns c = never (c .if1 .taken)
 
--- src/unused.rt:69:1
 returns-2 : tie.Need-returns-2
-returns-2 c = ?
+returns-2 c = idle-degrees (c .before .before .if1 .left) (c .before .before .before .args .x) (search needs)
 
 pub idle-degrees-spec : {M : Type 1} → statement M
 idle-degrees-spec = tie.close (tie.spec returns returns-2)

@@ -17,11 +17,11 @@ abbrev μ-loop : tie.MeasureT-loop
 loop-holds : tie.Need-loop-holds Inv-loop μ-loop
 loop-holds c = (omega arith, none-filled _)
 
-mul-code : tie.Need-mul-code Inv-loop μ-loop
-mul-code c = search needs
+mul-turn : tie.Need-mul-turn Inv-loop μ-loop
+mul-turn c = search needs
 
-array-copy-out-code : tie.Need-array-copy-out-code Inv-loop μ-loop
-array-copy-out-code c = search needs
+array-copy-out-turn : tie.Need-array-copy-out-turn Inv-loop μ-loop
+array-copy-out-turn c = search needs
 
 longitude-requires : tie.Need-longitude-requires Inv-loop μ-loop
 longitude-requires c κs = c .before .before .before .pre .1 (c .before .before .loop .i) (search needs)
@@ -55,8 +55,8 @@ longitudes-spec =
     Inv-loop
     μ-loop
     loop-holds
-    mul-code
-    array-copy-out-code
+    mul-turn
+    array-copy-out-turn
     longitude-requires
     mul-reported
     array-set-from-reported

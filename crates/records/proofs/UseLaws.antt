@@ -1,0 +1,104 @@
+-- Which places a kind uses: a place has bits just where its group is used, and a polygon's point where it is one of the first n.
+-- Assumes nothing.
+use Prim.Native.Nat.{ℕ, suc, _<_, _≤_}
+use mathlib.Core.Path.{_≡_, refl, sym, _∙_}
+use mathlib.Core.Bool.{Bool, true, false}
+use native.Mathlib.Omega.{arith}
+use lib.Dec.{ltb}
+use borrow.Author.Tests.{ltb-true, ltb-false, lt-ltb, le-ltb}
+use Rattle.layout.specs.declared.shapes.Kind.{Kind}
+use Rattle.layout.specs.declared.shapes.Kind.the-variants.{Nothing, Point, Circle, Ellipse, Polygon, AltitudePoint, AltitudeEllipsoid, Arc}
+use Rattle.layout.specs.Layout.{Field, count, latitude, longitude, semiMajor, semiMinor, orientation, innerRadius, offset, included, shapeRows}
+use Rattle.layout.specs.Rows.{tag, widthOf}
+use Rattle.layout.specs.Demands.{Used}
+use Rattle.layout.proofs.KindLaws.{pointsOf, point-width, no-point-width, fixed-width}
+use Rattle.quantities.specs.Places.{Unused}
+use Rattle.quantities.proofs.UnusedLaws.{used-point, unused-point}
+use Rattle.records.specs.Kinds.{uses}
+
+-- ---- a width and its test
+
+pub no-bits : (w : ℕ) → w ≡ 0 → ltb 0 w ≡ false
+no-bits w e = le-ltb 0 w (omega arith)
+
+pub no-bits-back : (w : ℕ) → ltb 0 w ≡ false → w ≡ 0
+no-bits-back w e = omega (arith, ltb-false 0 w e)
+
+-- ---- the groups
+
+pub record Grouped (k : Kind) : Type 0 where
+  pub longitudes : uses k (longitude 0) ≡ uses k (latitude 0)
+  pub semi-minors : uses k semiMinor ≡ uses k semiMajor
+  pub orientations : uses k orientation ≡ uses k semiMajor
+  pub offsets : uses k offset ≡ uses k innerRadius
+  pub includeds : uses k included ≡ uses k innerRadius
+
+pub grouped : (k : Kind) → Grouped k
+grouped Nothing = record { longitudes = refl; semi-minors = refl; orientations = refl; offsets = refl; includeds = refl }
+grouped Point = record { longitudes = refl; semi-minors = refl; orientations = refl; offsets = refl; includeds = refl }
+grouped Circle = record { longitudes = refl; semi-minors = refl; orientations = refl; offsets = refl; includeds = refl }
+grouped Ellipse = record { longitudes = refl; semi-minors = refl; orientations = refl; offsets = refl; includeds = refl }
+grouped Polygon = record { longitudes = refl; semi-minors = refl; orientations = refl; offsets = refl; includeds = refl }
+grouped AltitudePoint = record { longitudes = refl; semi-minors = refl; orientations = refl; offsets = refl; includeds = refl }
+grouped AltitudeEllipsoid = record { longitudes = refl; semi-minors = refl; orientations = refl; offsets = refl; includeds = refl }
+grouped Arc = record { longitudes = refl; semi-minors = refl; orientations = refl; offsets = refl; includeds = refl }
+
+-- a place that is no point's, in the group of g
+module _ (k : Kind) (n : ℕ) (f : Field) (low : 2 ≤ tag f) (high : tag f < 22) {g : Bool} (same : uses k f ≡ g) where
+  pub idle : Unused (shapeRows k n) f → g ≡ false
+  idle e = sym same ∙ no-bits _ (sym (fixed-width k n f low high) ∙ e)
+
+  pub idle-back : g ≡ false → Unused (shapeRows k n) f
+  idle-back e = fixed-width k n f low high ∙ no-bits-back _ (same ∙ e)
+
+  pub active : Used (shapeRows k n) f → g ≡ true
+  active u = sym same ∙ lt-ltb 0 (widthOf (shapeRows k 0) f) (omega (arith, fixed-width k n f low high))
+
+  pub active-back : g ≡ true → Used (shapeRows k n) f
+  active-back e = omega (arith, fixed-width k n f low high, ltb-true 0 (widthOf (shapeRows k 0) f) (same ∙ e))
+
+-- ---- the count
+
+count-width : (k : Kind) (n : ℕ) → widthOf (shapeRows k n) count ≡ widthOf (shapeRows k 0) count
+count-width Nothing n = refl
+count-width Point n = refl
+count-width Circle n = refl
+count-width Ellipse n = refl
+count-width Polygon n = refl
+count-width AltitudePoint n = refl
+count-width AltitudeEllipsoid n = refl
+count-width Arc n = refl
+
+module _ (k : Kind) (n : ℕ) where
+  pub count-idle : Unused (shapeRows k n) count → uses k count ≡ false
+  count-idle e = no-bits _ (sym (count-width k n) ∙ e)
+
+  pub count-idle-back : uses k count ≡ false → Unused (shapeRows k n) count
+  count-idle-back e = count-width k n ∙ no-bits-back _ e
+
+-- ---- a polygon's point
+
+module _ (k : Kind) (n : ℕ) (counted : pointsOf k n ≡ n) (i : ℕ) where
+  pub latitude-used : ltb i n ≡ true → Used (shapeRows k n) (latitude (suc i))
+  latitude-used e = omega (arith, point-width k n 1 i (omega (arith, ltb-true i n e)))
+
+  pub longitude-used : ltb i n ≡ true → Used (shapeRows k n) (longitude (suc i))
+  longitude-used e = omega (arith, point-width k n 2 i (omega (arith, ltb-true i n e)))
+
+  pub latitude-unused : ltb i n ≡ false → Unused (shapeRows k n) (latitude (suc i))
+  latitude-unused e = no-point-width k n (latitude (suc i)) (omega arith) (omega (arith, ltb-false i n e))
+
+  pub longitude-unused : ltb i n ≡ false → Unused (shapeRows k n) (longitude (suc i))
+  longitude-unused e = no-point-width k n (longitude (suc i)) (omega arith) (omega (arith, ltb-false i n e))
+
+  pub latitude-counted : Used (shapeRows k n) (latitude (suc i)) → ltb i n ≡ true
+  latitude-counted u = lt-ltb i n (omega (arith, used-point k n i (latitude (suc i)) (omega arith) u))
+
+  pub longitude-counted : Used (shapeRows k n) (longitude (suc i)) → ltb i n ≡ true
+  longitude-counted u = lt-ltb i n (omega (arith, used-point k n i (longitude (suc i)) (omega arith) u))
+
+  pub latitude-past : Unused (shapeRows k n) (latitude (suc i)) → ltb i n ≡ false
+  latitude-past e = le-ltb i n (omega (arith, unused-point k n 1 i (omega arith) e))
+
+  pub longitude-past : Unused (shapeRows k n) (longitude (suc i)) → ltb i n ≡ false
+  longitude-past e = le-ltb i n (omega (arith, unused-point k n 2 i (omega arith) e))
