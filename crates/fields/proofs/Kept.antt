@@ -1,8 +1,8 @@
 -- A code keeps its value: the quantity reported for it, coded afresh, gives that code, and so however often it travels. Assumes nothing.
-use mathlib.Core.Path.{_≡_, refl, sym, ap, _∙_, subst, subst⁻¹}
-use Prim.Native.Nat.{ℕ, zero, suc, _+_, _*_, _-_, _<_}
+use mathlib.Core.Path.{_≡_, refl, ap, _∙_, subst, subst⁻¹}
+use Prim.Native.Nat.{ℕ, _+_, _*_, _-_, _<_}
 use native.Mathlib.Omega.{arith}
-use Rattle.ground.specs.Answers.{Said, done, refused}
+use Rattle.ground.specs.Answers.{Said, done}
 use Rattle.ground.specs.Sets.{OfSign}
 use Rattle.ground.specs.Steps.{SpeedStep}
 use Rattle.ground.specs.declared.quantities.UncertaintySpeed.the-variants as uncertain

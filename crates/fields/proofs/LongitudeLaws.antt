@@ -6,7 +6,7 @@ use Prim.Native.Nat.{ℕ, _+_, _≤_, _<_}
 use native.Mathlib.Omega.{arith}
 use lib.Dec.{eqb}
 use lib.IntN.{ℤ, pos, negsuc, natAbs}
-use lib.Signed.{mag, _≤ℤ_}
+use lib.Signed.{mag}
 use borrow.Author.Tests.{eqb-true}
 use Rattle.ground.specs.Sets.{LowestOf}
 use Rattle.coordinates.specs.Halves.{up, down}

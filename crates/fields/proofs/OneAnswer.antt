@@ -1,10 +1,10 @@
 -- One answer: coding a quantity says one thing, and reporting a code says one thing, for every field. Assumes nothing.
-use mathlib.Core.Path.{_≡_, refl, sym, ap, _∙_, subst}
+use mathlib.Core.Path.{_≡_, refl, sym, ap, _∙_}
 use mathlib.Core.Bool.{Bool}
 use Prim.Native.Nat.{ℕ, _≤_, _<_}
 use native.Mathlib.Omega.{arith}
-use lib.IntN.{ℤ, natAbs}
-use Rattle.ground.specs.Answers.{Said, done, refused, Answer}
+use lib.IntN.{ℤ}
+use Rattle.ground.specs.Answers.{Said}
 use Rattle.ground.proofs.AnswerLaws.{one-answer}
 use Rattle.ground.specs.Steps.{OpenStep, SpeedStep}
 use Rattle.ground.specs.declared.codes.UncertaintySpeedCode.{UncertaintySpeedCode}

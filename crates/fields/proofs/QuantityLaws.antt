@@ -1,14 +1,13 @@
 -- The quantity worked out for a code is the one that reporting promises. Assumes nothing.
-use mathlib.Core.Path.{_≡_, refl, sym, subst}
+use mathlib.Core.Path.{_≡_, refl}
 use mathlib.Core.Bool.{Bool, true, false, cond}
-use Prim.Native.Nat.{ℕ, zero, suc, _+_, _-_, _*_, _/_, _≤_, _<_}
-use native.Mathlib.Nat.{le-antisymm}
+use Prim.Native.Nat.{_+_, _-_, _*_, _/_, _<_}
 use native.Mathlib.Omega.{arith}
 use lib.Dec.{eqb}
-use lib.IntN.{ℤ, pos, negsuc, subℕ}
+use lib.IntN.{ℤ, pos, negsuc}
 use lib.Signed.{mag}
 use borrow.Author.Tests.{eqb-true, eqb-false}
-use Rattle.ground.specs.Answers.{Said, done}
+use Rattle.ground.specs.Answers.{done}
 use Rattle.ground.specs.Sets.{LowestOf}
 use Rattle.ground.specs.declared.codes.UncertaintySpeedCode.{UncertaintySpeedCode}
 use Rattle.ground.specs.declared.codes.ConfidenceCode.{ConfidenceCode}

@@ -2,7 +2,7 @@
 use mathlib.Core.Path.{_≡_}
 use Prim.Native.Nat.{ℕ, _+_, _*_}
 use lib.IntN.{ℤ, pos, negsuc}
-use mathlib.Core.Bool.{Bool, true, false}
+use mathlib.Core.Bool.{Bool, true}
 use Rattle.ground.specs.Signs.{signed}
 use Rattle.ground.specs.Sets.{NearestOf, LowestOf}
 use Rattle.ground.specs.declared.quantities.UncertaintySpeed.the-variants as uncertain

@@ -22,6 +22,9 @@ module _ {A : Type 0} (right : A → Type 0) (number : ℕ) (reason : Type 0) (o
 pub said-one : {A : Type 0} {a b : A} → _≡_ {A = Said A} (done a) (done b) → a ≡ b
 said-one e = cc
 
+pub done-not-refused : {A : Type 0} {a : A} {n : ℕ} → _≡_ {A = Said A} (done a) (refused n) → ⊥
+done-not-refused e = let z : _≡_ {A = ℕ} 0 1 = cc in omega arith
+
 pub refusal-back : (why : Refusal) → refusalOf (numberOf why) ≡ why
 refusal-back NoOctets = refl
 refusal-back UnknownType = refl

@@ -1,13 +1,12 @@
 -- Laws of sets of quantities, whatever the set. Assumes nothing.
-use mathlib.Core.Path.{_≡_, refl, sym, ap, _∙_, subst}
+use mathlib.Core.Path.{_≡_, refl, sym, ap, subst}
 use mathlib.Core.Bool.{Bool, true, false}
-use Prim.Native.Nat.{ℕ, zero, suc, _-_, _≤_, _<_}
-use native.Mathlib.Nat.{le-antisymm}
+use Prim.Native.Nat.{ℕ, zero, suc, _-_, _≤_}
 use native.Mathlib.Omega.{arith}
 use lib.Dec.{T}
 use lib.IntN.{ℤ, pos, negsuc, natAbs}
 use Rattle.ground.specs.Signs.{isNegative, partsOf, signed}
-use Rattle.ground.specs.Sets.{OfSign, LeastOf, GreatestOf, NearestOf, LeastCode}
+use Rattle.ground.specs.Sets.{OfSign, LeastOf, NearestOf}
 use Rattle.ground.specs.declared.signs.Parts.{Parts}
 
 -- ---- a number taken apart is in the set of its sign whose sizes have its size

@@ -1,6 +1,6 @@
 -- What a type doesn't use: a sign goes with its number, and a code that is in its field is zero. Assumes nothing.
 use Prim.Native.Nat.{ℕ, zero, suc, _+_, _*_, _^_, _≤_, _<_}
-use mathlib.Core.Path.{_≡_, refl, ap, sym, _∙_}
+use mathlib.Core.Path.{_≡_, refl, sym}
 use mathlib.Core.Bool.{Bool, true, false}
 use mathlib.Core.List.{List}
 use native.Mathlib.Omega.{arith}
@@ -17,7 +17,7 @@ use Rattle.layout.specs.declared.velocities.VelocityKind.the-variants as veloci
 use Rattle.layout.specs.declared.velocities.Velocity.{Velocity}
 use Rattle.layout.specs.Layout.{Field, Row, shapeRows, velocityRows}
 use Rattle.layout.specs.Layout as layout
-use Rattle.layout.specs.Rows.{tag, widthOf}
+use Rattle.layout.specs.Rows.{tag}
 use Rattle.layout.specs.Demands.{Used, InFields}
 use Rattle.layout.specs.Shapes.{rowsOf, valueOf}
 use Rattle.layout.specs.Velocities.{velocityValueOf}

@@ -1,13 +1,12 @@
 -- Zero is reported as zero and coded as zero, in every field but the included angle's, where 0 has no code. Assumes nothing.
-use Prim.Native.Nat.{ℕ, zero, suc, _≤_}
+use Prim.Native.Nat.{zero}
 use mathlib.Core.Path.{_≡_, refl, sym, subst}
 use mathlib.Core.Bool.{Bool, true, false}
 use native.Mathlib.Omega.{arith}
 use lib.Dec.{T}
 use lib.IntN.{pos}
-use Rattle.ground.specs.Answers.{Said, done, refused}
+use Rattle.ground.specs.Answers.{Said, done}
 use Rattle.ground.proofs.AnswerLaws.{said-one}
-use Rattle.coordinates.specs.Longitude.{LongitudeSet}
 use Rattle.coordinates.proofs.LatitudeLaws.{least-size}
 use Rattle.coordinates.proofs.LongitudeLaws.{reported}
 use Rattle.radii.proofs.TableLaws.{entry}

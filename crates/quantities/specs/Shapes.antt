@@ -1,12 +1,11 @@
 -- A shape's record reported, and its quantities coded. Assumes nothing.
 use mathlib.Core.Path.{_≡_}
 use mathlib.Core.List.{List}
-use Prim.Native.Nat.{ℕ, zero, suc}
+use Prim.Native.Nat.{zero, suc}
 use lib.IntN.{pos}
 use lib.ListN.{length, getD, replicate}
 use Rattle.ground.specs.Answers.{outcomeNumber}
 use Rattle.ground.specs.declared.quantities.Nanodegrees.{Nanodegrees}
-use Rattle.ground.specs.declared.quantities.Confidence.the-variants.{Missing}
 use Rattle.fields.specs.Fields as field
 use Rattle.layout.specs.declared.shapes.Kind.the-variants.{Nothing}
 use Rattle.layout.specs.declared.shapes.Shape.{Shape}
@@ -17,30 +16,7 @@ use Rattle.layout.specs.Shapes.{rowsOf, valueOf, zeroLatitude, zeroLongitude, b
 use Rattle.quantities.specs.declared.shapes.ShapeQuantities.{ShapeQuantities}
 use Rattle.quantities.specs.declared.shapes.ShapeReported.{ShapeReported}
 use Rattle.quantities.specs.declared.shapes.ShapeCoded.{ShapeCoded}
-use Rattle.quantities.specs.Places.{
-  Place,
-  latitude,
-  longitude,
-  altitude,
-  uncertainty,
-  semiMajor,
-  semiMinor,
-  orientation,
-  altitudeUncertainty,
-  confidence,
-  innerRadius,
-  offset,
-  included,
-  bearing,
-  horizontalSpeed,
-  verticalSpeed,
-  speedUncertainty,
-  verticalUncertainty,
-  Codes,
-  Quantities,
-  zeroCode,
-  zeroQuantity,
-}
+use Rattle.quantities.specs.Places.{latitude, longitude, altitude, uncertainty, semiMajor, semiMinor, orientation, altitudeUncertainty, confidence, innerRadius, offset, included, bearing, horizontalSpeed, verticalSpeed, speedUncertainty, verticalUncertainty, Codes, Quantities, zeroCode, zeroQuantity}
 use Rattle.quantities.specs.Promises.{EachReported, EachCoded, CodeAnswer, Given}
 
 -- ---- the codes and the quantities at a shape's places; a velocity's are zero

@@ -1,7 +1,7 @@
 -- What a test shows: of a demand that it decides, and of a quantity that is compared with zero. Assumes nothing.
 use Prim.Native.Nat.{ℕ}
 use mathlib.Core.Path.{_≡_, refl, sym, ap, _∙_}
-use mathlib.Core.Bool.{Bool, true, false, not}
+use mathlib.Core.Bool.{Bool, true, false}
 use native.Mathlib.Omega.{arith}
 use lib.Dec.{eqb}
 use lib.IntN.{ℤ, pos}
@@ -19,25 +19,13 @@ use Rattle.ground.specs.declared.quantities.UncertaintySpeed.{UncertaintySpeed}
 use Rattle.ground.specs.declared.quantities.UncertaintySpeed.the-variants.{Speed, Missing}
 use Rattle.ground.specs.declared.quantities.Confidence.{Confidence}
 use Rattle.ground.specs.declared.quantities.Confidence.the-variants.{PerCent}
+use Rattle.ground.proofs.AnswerLaws.{decided}
 use Rattle.fields.specs.Fields as field
 use Rattle.quantities.specs.Places.{zeroQuantity}
 use Rattle.records.specs.Unused.{IdleNumber, IdleDegrees, IdleAltitude, IdleConfidence, IdleVertical, IdleSpeed}
 
 pub never : {A : Type 0} {b : Bool} → b ≡ true → b ≡ false → A
 never e f = let z : _≡_ {A = ℕ} 0 1 = cc in absurd (omega arith)
-
--- where `if !test(..)` is passed, and where it is not
-pub shown : {P : Type 0} (b : Bool) → not b ≡ false → Decides b P → P
-shown true e h = h
-shown false e h = never refl e
-
-pub refuted : {P : Type 0} (b : Bool) → not b ≡ true → Decides b P → P → ⊥
-refuted true e h = never e refl
-refuted false e h = h
-
-pub decided : {P Q : Type 0} (b : Bool) → (P → Q) → (Q → P) → Decides b P → Decides b Q
-decided true f g h = f h
-decided false f g h = λ q. h (g q)
 
 -- ---- a number that is compared with zero
 

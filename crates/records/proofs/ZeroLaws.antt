@@ -4,18 +4,16 @@ use Prim.Native.Nat.{ℕ, zero, suc, _<_}
 use mathlib.Core.Path.{_≡_, refl}
 use mathlib.Core.Bool.{true}
 use native.Mathlib.Omega.{arith}
-use Rattle.ground.specs.Answers.{Said, done, refused}
+use Rattle.ground.specs.Answers.{done, refused}
+use Rattle.ground.proofs.AnswerLaws.{done-not-refused}
 use Rattle.fields.specs.Fields.{Field, CodeOf, QuantityOf, Coding}
 use Rattle.fields.proofs.OneAnswer.{coding-one}
 use Rattle.fields.proofs.Kept.{own-set}
 use Rattle.quantities.specs.Places.{zeroCode, zeroQuantity}
 use Rattle.quantities.proofs.ZeroLaws.{hasZero, zero-reported, codes-zero}
 
-never : {A : Type 0} (n : ℕ) (a : A) → _≡_ {A = Said A} (done a) (refused n) → ⊥
-never n a e = let z : _≡_ {A = ℕ} 0 1 = cc in omega arith
-
 pub not-refused : (f : Field) (x : QuantityOf f) (c : CodeOf f) (n : ℕ) → Coding f x (done c) → Coding f x (refused n) → ⊥
-not-refused f x c n p q = never n c (coding-one f x (done c) (refused n) p q)
+not-refused f x c n p q = done-not-refused (coding-one f x (done c) (refused n) p q)
 
 module _ (f : Field) (has : hasZero f ≡ true) where
   pub zero-coded : Coding f (zeroQuantity f) (done (zeroCode f))

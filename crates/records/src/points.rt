@@ -4,7 +4,6 @@ use coordinates::LongitudeCoded;
 use ground::LatitudeCode;
 use ground::LongitudeCode;
 use ground::Nanodegrees;
-ghost use Prim.Native.Nat.{_≤_};
 ghost use Rattle.records.specs.Points.{CodesPoint, CodesPoints};
 
 pub struct Points {

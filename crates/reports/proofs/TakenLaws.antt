@@ -1,30 +1,20 @@
 -- What is reported of the codes of a record that the writer takes are its quantities. Assumes nothing.
-use Prim.Native.Nat.{ℕ, zero, suc, _+_, _*_, _^_, _≤_, _<_}
+use Prim.Native.Nat.{zero, suc}
 use mathlib.Core.Path.{_≡_, refl, sym, _∙_}
-use mathlib.Core.Bool.{Bool, true, false}
-use mathlib.Core.List.{List}
-use native.Mathlib.Nat.{le-refl}
+use mathlib.Core.Bool.{true}
 use native.Mathlib.Omega.{arith}
-use lib.Dec.{ltb}
-use lib.IntN.{ℤ, pos, negsuc}
-use lib.ListN.{length}
-use lib.Signed.{mag}
-use borrow.Author.Tests.{ltb-true, ltb-false}
 use Rattle.ground.specs.Answers.{done}
-use Rattle.octets.specs.Codes.{complement}
-use Rattle.fields.specs.Fields.{CodeOf, QuantityOf, Reporting}
+use Rattle.fields.specs.Fields.{Reporting}
 use Rattle.fields.specs.Fields as field
 use Rattle.layout.specs.declared.shapes.Shape.{Shape}
 use Rattle.layout.specs.declared.velocities.Velocity.{Velocity}
-use Rattle.layout.specs.Layout.{Field, Row, shapeRows, velocityRows}
+use Rattle.layout.specs.Layout.{Field, shapeRows, velocityRows}
 use Rattle.layout.specs.Layout as layout
-use Rattle.layout.specs.Rows.{widthOf, lengthOf}
-use Rattle.layout.specs.Demands.{Used, InFields, WriteAnswer}
-use Rattle.layout.specs.Shapes.{rowsOf, valueOf}
-use Rattle.layout.specs.Velocities.{velocityValueOf}
+use Rattle.layout.specs.Rows.{widthOf}
+use Rattle.layout.specs.Demands.{Used}
+use Rattle.layout.specs.Shapes.{rowsOf}
 use Rattle.layout.proofs.KindLaws.{pointsOf, fixed-width}
-use Rattle.trips.proofs.DemandLaws.{Sound, sound}
-use Rattle.trips.proofs.WidthLaws.{shapeWidest, velocityWidest, code-of, shape-width, velocity-width}
+use Rattle.trips.proofs.WidthLaws.{shapeWidest, velocityWidest, shape-width, velocity-width}
 use Rattle.quantities.specs.declared.shapes.ShapeQuantities.{ShapeQuantities}
 use Rattle.quantities.specs.declared.velocities.VelocityQuantities.{VelocityQuantities}
 use Rattle.quantities.specs.Places.{
@@ -56,7 +46,7 @@ use Rattle.quantities.specs.Velocities.{velocityCodeAt, velocityQuantityAt, Tak
 use Rattle.quantities.proofs.HeldLaws.{taken, motion-taken}
 use Rattle.quantities.proofs.ZeroLaws.{hasZero, reports-zero}
 use Rattle.quantities.proofs.UnusedLaws.{used-point, unused-point, counted-points, unused-code, unused-motion}
-use Rattle.reports.specs.Points.{LatitudesHeld, LatitudesReported, LongitudesHeld, LongitudesReported}
+use Rattle.reports.specs.Points.{LatitudesReported, LongitudesReported}
 use Rattle.reports.specs.Included.{IncludedReported}
 
 -- what is reported of the codes that a shape has one of; an included angle aside

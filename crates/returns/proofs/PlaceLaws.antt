@@ -1,32 +1,24 @@
 -- ONE ARGUMENT over the places of any record, from the laws of their fields: what is reported and what is coded is one thing,
 -- and codes that are reported and coded again are those codes. Assumes nothing.
-use Prim.Native.Nat.{ℕ, zero, suc, _≤_, _<_}
-use mathlib.Core.Path.{_≡_, refl, sym, subst, _∙_}
+use Prim.Native.Nat.{ℕ, _≤_}
+use mathlib.Core.Path.{_≡_, refl, sym, _∙_}
 use mathlib.Core.Bool.{Bool, true, false}
 use mathlib.Core.List.{List}
 use native.Mathlib.Omega.{arith}
 use lib.Dec.{ltb}
 use borrow.Author.Tests.{ltb-true, ltb-false}
-use Rattle.ground.specs.Answers.{Said, done, refused, met}
-use Rattle.ground.proofs.AnswerLaws.{unless-one, said-one}
+use Rattle.ground.specs.Answers.{done, refused, met}
+use Rattle.ground.proofs.AnswerLaws.{unless-one, said-one, done-not-refused}
 use Rattle.radii.proofs.CoverLaws.{covers-up}
-use Rattle.fields.specs.Fields.{CodeOf, QuantityOf, Coding, Reporting}
-use Rattle.fields.specs.Fields as field
+use Rattle.fields.specs.Fields.{Coding}
 use Rattle.fields.proofs.OneAnswer.{coding-one, reporting-one}
 use Rattle.fields.proofs.Kept.{kept}
 use Rattle.layout.specs.Layout.{Row}
 use Rattle.layout.specs.Layout as layout
 use Rattle.layout.specs.Rows.{widthOf}
 use Rattle.layout.specs.Demands.{Listed, Used, CountSound}
-use Rattle.quantities.specs.Places.{Place, semiMajor, semiMinor, fieldOf, rowOf, Codes, Quantities, Unused, zeroCode, zeroQuantity}
-use Rattle.quantities.specs.Promises.{EachReported, EachCoded, InRange, Covered, CodeAnswer}
-
-abbrev IsRefused : {A : Type 0} → Said A → Type 0
-IsRefused (done a) = ⊥
-IsRefused (refused n) = Unit {0}
-
-not-refused : {A : Type 0} {a : A} {n : ℕ} → _≡_ {A = Said A} (refused n) (done a) → ⊥
-not-refused {A} e = subst (λ (s : Said A). IsRefused s) e tt
+use Rattle.quantities.specs.Places.{Place, semiMajor, semiMinor, fieldOf, rowOf, Codes, Quantities, Unused, zeroCode}
+use Rattle.quantities.specs.Promises.{EachReported, EachCoded, CodeAnswer}
 
 -- a field is used, or it isn't
 by-use : (rows : List Row) (f : layout.Field) (P : Type 0) → (Used rows f → P) → (Unused rows f → P) → P
@@ -59,7 +51,7 @@ module _ (rows : List Row) where
 
   module _ (code : Codes) (quantity : Quantities) (reported : EachReported rows code quantity) (zeros : (p : Place) → Unused rows (rowOf p) → code p ≡ zeroCode (fieldOf p)) where
     never : (p : Place) (n : ℕ) → Used rows (rowOf p) → Coding (fieldOf p) (quantity p) (refused n) → ⊥
-    never p n u c = not-refused (kept (fieldOf p) (code p) (quantity p) (refused n) (reported .used p u) c)
+    never p n u c = done-not-refused (sym (kept (fieldOf p) (code p) (quantity p) (refused n) (reported .used p u) c))
 
     pub coded-back : (d : Codes) → EachCoded rows quantity d → (p : Place) → d p ≡ code p
     coded-back d c p =

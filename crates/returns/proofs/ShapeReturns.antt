@@ -1,13 +1,11 @@
 -- ONE ANSWER of reporting and coding a shape, and THE TRIP: a record that can be reported and whose semi-minor code is not above
 -- its semi-major, reported and coded by its own type, is that record, however often; so, written, its own octets. Assumes nothing.
-use Prim.Native.Nat.{ℕ, zero, suc, _≤_, _<_}
-use mathlib.Core.Path.{_≡_, refl, ap, sym, subst, _∙_}
+use Prim.Native.Nat.{ℕ, zero, suc, _≤_}
+use mathlib.Core.Path.{_≡_, sym, subst, _∙_}
 use mathlib.Core.List.{List, _++_}
-use native.Mathlib.Nat.{le-refl}
 use native.Mathlib.Omega.{arith}
 use lib.ListN.{length, drop}
 use lib.Seq.{ext-getD}
-use Rattle.ground.specs.Answers.{outcomeNumber}
 use Rattle.ground.specs.declared.refusals.Outcome.{Outcome}
 use Rattle.ground.specs.declared.refusals.Outcome.the-variants.{Done, Refused}
 use Rattle.ground.proofs.AnswerLaws.{outcome-one}
@@ -19,10 +17,10 @@ use Rattle.layout.specs.declared.shapes.ShapeRead.{ShapeRead}
 use Rattle.layout.specs.Layout.{Row, shapeRows}
 use Rattle.layout.specs.Layout as layout
 use Rattle.layout.specs.Rows.{lengthOf, spareZero}
-use Rattle.layout.specs.Demands.{Used, WriteAnswer}
+use Rattle.layout.specs.Demands.{Used}
 use Rattle.layout.specs.Shapes.{rowsIn, rowsOf, valueOf, zeroLatitude, zeroLongitude, blankShape, ReadsShape, WritesShape}
 use Rattle.layout.proofs.KindLaws.{fixed-width}
-use Rattle.trips.proofs.DemandLaws.{Sound, sound, write-done}
+use Rattle.trips.proofs.DemandLaws.{Sound, sound}
 use Rattle.trips.proofs.OneAnswer.{write-answer-one}
 use Rattle.trips.proofs.ShapeRecords.{Fifteen}
 use Rattle.trips.proofs.ShapeTrips.{shape-taken, shape-accepted, shape-whole, shape-again}

@@ -1,6 +1,6 @@
 -- ONE ANSWER of reporting and coding a velocity, and THE TRIP, as for shapes. Assumes nothing.
-use Prim.Native.Nat.{ℕ, zero, suc, _≤_, _<_}
-use mathlib.Core.Path.{_≡_, refl, ap, sym, subst, _∙_}
+use Prim.Native.Nat.{ℕ, zero, _≤_}
+use mathlib.Core.Path.{_≡_, refl, sym, subst, _∙_}
 use mathlib.Core.List.{List, _++_}
 use native.Mathlib.Omega.{arith}
 use lib.ListN.{length, drop}
@@ -12,10 +12,10 @@ use Rattle.layout.specs.declared.velocities.VelocityKind.{VelocityKind}
 use Rattle.layout.specs.declared.velocities.VelocityKind.the-variants.{Nothing}
 use Rattle.layout.specs.declared.velocities.Velocity.{Velocity}
 use Rattle.layout.specs.declared.velocities.VelocityRead.{VelocityRead}
-use Rattle.layout.specs.Layout.{Row, velocityRows}
+use Rattle.layout.specs.Layout.{velocityRows}
 use Rattle.layout.specs.Layout as layout
 use Rattle.layout.specs.Rows.{lengthOf, spareZero}
-use Rattle.layout.specs.Demands.{Used, WriteAnswer}
+use Rattle.layout.specs.Demands.{Used}
 use Rattle.layout.specs.Velocities.{velocityRowsIn, velocityValueOf, blankVelocity, ReadsVelocity, WritesVelocity}
 use Rattle.trips.proofs.DemandLaws.{Sound, sound}
 use Rattle.trips.proofs.OneAnswer.{write-answer-one}

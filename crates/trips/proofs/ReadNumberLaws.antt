@@ -10,7 +10,7 @@ use borrow.Author.Tests.{eqb-true, eqb-false, leb-true, leb-false, ltb-true, ltb
 use Rattle.ground.specs.Answers.{Unless, met, unmet}
 use Rattle.layout.specs.Layout.{Field, Row, count, orientation, offset, included, bearing, confidence}
 use Rattle.layout.specs.Rows.{widthOf, read, lengthOf}
-use Rattle.layout.specs.Demands.{Used, CountSound, AnglesSound, ConfidenceSound, ReadAnswer}
+use Rattle.layout.specs.Demands.{Used, CountSound, AnglesSound, ReadAnswer}
 use Rattle.layout.proofs.TidyLaws.{both, read-in-fields}
 use Rattle.trips.specs.ReadNumbers.{readNumber}
 use Rattle.trips.proofs.OneAnswer.{read-answer-one}

@@ -1,5 +1,4 @@
 -- The answer is the writer's, and the quantities are those of a record that it takes.
-use mathlib.Core.Path.{refl}
 use Rattle.reports.proofs.report_velocity.Statement.{statement}
 use Rattle.reports.proofs.report_velocity.Tie as tie
 

@@ -1,7 +1,7 @@
 -- Each answer by its law.
 use mathlib.Core.Path.{refl}
 use borrow.Author.Needs.{needs}
-use Rattle.records.proofs.TestLaws.{shown, refuted}
+use Rattle.ground.proofs.AnswerLaws.{shown, refuted}
 use Rattle.records.proofs.VelocityLaws.{listed-kind, in-range, velocity-done, nothing-refused, rest-refused, bearing-refused, uncertainty-refused, vertical-refused}
 use Rattle.records.proofs.motions.code_velocity.Statement.{statement}
 use Rattle.records.proofs.motions.code_velocity.Tie as tie

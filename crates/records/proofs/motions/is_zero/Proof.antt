@@ -1,5 +1,5 @@
 -- Each test is one of the demands, of what the layout table gives the kind.
-use Rattle.records.proofs.TestLaws.{shown, refuted, decided}
+use Rattle.ground.proofs.AnswerLaws.{shown, refuted, decided}
 use borrow.Author.Needs.{needs}
 use Rattle.records.proofs.motions.is_zero.Statement.{statement}
 use Rattle.records.proofs.motions.is_zero.Tie as tie

@@ -2,7 +2,7 @@
 use native.Mathlib.Omega.{arith}
 use borrow.Author.Tests.{not-true, not-false}
 use borrow.Author.Needs.{needs}
-use Rattle.records.proofs.TestLaws.{shown, refuted}
+use Rattle.ground.proofs.AnswerLaws.{shown, refuted}
 use Rattle.records.proofs.ShapeLaws.{in-range, rest-zero, ranges-kept, points-kept, shape-done, out-of-range, too-large}
 use Rattle.records.proofs.shapes.coded.Statement.{statement}
 use Rattle.records.proofs.shapes.coded.Tie as tie

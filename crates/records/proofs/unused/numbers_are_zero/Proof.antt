@@ -1,5 +1,5 @@
 -- Each test is one of the demands.
-use Rattle.records.proofs.TestLaws.{shown, refuted, decided}
+use Rattle.ground.proofs.AnswerLaws.{shown, refuted, decided}
 use borrow.Author.Needs.{needs}
 use Rattle.records.proofs.unused.numbers_are_zero.Statement.{statement}
 use Rattle.records.proofs.unused.numbers_are_zero.Tie as tie
