@@ -48,17 +48,19 @@ fn put_rest(out: &mut [u8], at: usize, velocity: Velocity) -> usize
 {
     let kind = velocity.kind;
     let vertical = Whole(speeds::reported_vertical_speed(velocity.vertical_speed).0 as i64);
-    let uncertainty = speeds::reported_uncertainty_speed(velocity.uncertainty);
     match kind {
         VelocityKind::Nothing => at,
         VelocityKind::Horizontal => at,
         VelocityKind::HorizontalVertical => numbers::put_signed(out, at, vertical),
-        VelocityKind::HorizontalUncertain => numbers::put_uncertainty(out, at, uncertainty),
+        VelocityKind::HorizontalUncertain => numbers::put_uncertainty(
+            out,
+            at,
+            velocity.uncertainty,
+        ),
         VelocityKind::HorizontalVerticalUncertain => {
             let a = numbers::put_signed(out, at, vertical);
-            let b = numbers::put_uncertainty(out, a, uncertainty);
-            let other = speeds::reported_uncertainty_speed(velocity.vertical_uncertainty);
-            numbers::put_uncertainty(out, b, other)
+            let b = numbers::put_uncertainty(out, a, velocity.uncertainty);
+            numbers::put_uncertainty(out, b, velocity.vertical_uncertainty)
         }
     }
 }

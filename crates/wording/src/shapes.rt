@@ -138,7 +138,7 @@ fn put_rest(out: &mut [u8], at: usize, shape: Shape) -> usize
                 shape.semi_minor,
                 shape.orientation,
             );
-            numbers::put_confidence(out, a, spoken::confidence(shape.confidence))
+            numbers::put_confidence(out, a, shape.confidence)
         }
         Kind::Polygon => at,
         Kind::AltitudePoint => {
@@ -167,7 +167,7 @@ fn put_ellipsoid(out: &mut [u8], at: usize, shape: Shape) -> usize
         b,
         spoken::altitude_uncertainty(shape.altitude_uncertainty).0,
     );
-    numbers::put_confidence(out, c, spoken::confidence(shape.confidence))
+    numbers::put_confidence(out, c, shape.confidence)
 }
 
 fn put_arc(out: &mut [u8], at: usize, shape: Shape) -> usize
@@ -183,5 +183,5 @@ fn put_arc(out: &mut [u8], at: usize, shape: Shape) -> usize
     let b = numbers::put_natural(out, a, spoken::uncertainty(shape.uncertainty).0);
     let c = numbers::put_natural(out, b, spoken::offset(shape.offset).0);
     let d = numbers::put_natural(out, c, spoken::included(shape.included).0);
-    numbers::put_confidence(out, d, spoken::confidence(shape.confidence))
+    numbers::put_confidence(out, d, shape.confidence)
 }

@@ -1,0 +1,62 @@
+-- What is held is sound, and each turn comes nearer to the end.
+use borrow.Author.Needs.{needs}
+use Prim.Native.Nat.{_≤_}
+use mathlib.Core.Path.{_≡_}
+use lib.ListN.{length}
+use Rattle.listing.specs.Streaming.{longestStep}
+use Rattle.lister.specs.Holding.{Sound, turnsLeft}
+use Rattle.lister.proofs.run.Statement.{statement}
+use Rattle.lister.proofs.run.Tie as tie
+
+abbrev Inv-loop : tie.InvT-loop
+Inv-loop out₀ buf₀ held₀ out buf held = Sound buf held × (longestStep ≤ length out) × (length buf ≡ length buf₀) × (length out ≡ length out₀)
+
+abbrev μ-loop : tie.MeasureT-loop
+μ-loop out₀ buf₀ held₀ out buf held = turnsLeft held
+
+loop-holds : tie.Need-loop-holds Inv-loop μ-loop
+loop-holds c = search needs
+
+turn-requires : tie.Need-turn-requires Inv-loop μ-loop
+turn-requires c κs = search needs
+
+same-length : tie.Need-same-length Inv-loop μ-loop
+same-length c = search needs
+
+same-length-2 : tie.Need-same-length-2 Inv-loop μ-loop
+same-length-2 c = search needs
+
+returns : tie.Need-returns Inv-loop μ-loop
+returns c = search needs
+
+loop-less : tie.Need-loop-less Inv-loop μ-loop
+loop-less c = c .before .before .before .before .before .turn .ensures .nearer (c .if2 .left)
+
+loop-again : tie.Need-loop-again Inv-loop μ-loop
+loop-again c = search needs
+
+same-length-3 : tie.Need-same-length-3 Inv-loop μ-loop
+same-length-3 c = search needs
+
+same-length-4 : tie.Need-same-length-4 Inv-loop μ-loop
+same-length-4 c = search needs
+
+returns-2 : tie.Need-returns-2 Inv-loop μ-loop
+returns-2 c = search needs
+
+pub run-spec : {M : Type 1} → statement M
+run-spec =
+    tie.close
+    (tie.spec
+    Inv-loop
+    μ-loop
+    loop-holds
+    turn-requires
+    same-length
+    same-length-2
+    returns
+    loop-less
+    loop-again
+    same-length-3
+    same-length-4
+    returns-2)

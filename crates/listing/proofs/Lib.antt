@@ -1,0 +1,3 @@
+pub mod MessageLaws
+pub mod SomeLaws
+pub mod StreamLaws
