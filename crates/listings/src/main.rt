@@ -1,6 +1,6 @@
 // Lists the logs on standard input, each with its length in two octets before it: a test of logs that end, or are broken, in
 // every way.
-ghost use Prim.Native.Nat.{_+_, _≤_};
+ghost use Prim.Native.Nat.{_+_};
 ghost use lib.ListN.{length};
 
 // Lists a log, and writes that.

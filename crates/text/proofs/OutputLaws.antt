@@ -2,7 +2,7 @@
 use Prim.Native.Nat.{ℕ, zero, suc, _+_, _/_, _%_, _^_, _≤_, _<_}
 use mathlib.Core.Path.{_≡_, refl, sym, ap, _∙_, subst}
 use mathlib.Core.Bool.{Bool, true, false}
-use mathlib.Core.List.{List, [], _∷_, _++_}
+use mathlib.Core.List.{List, [], _∷_, _++_, append-assoc}
 use mathlib.Core.Logic.{_⊎_, inl, inr, ⊎-elim}
 use native.Mathlib.Nat.{pow-suc, div-lt-iff-lt-mul, add-zero, add-suc, suc-add, add-assoc}
 use native.Mathlib.Omega.{arith}
@@ -15,7 +15,7 @@ use mir.Val.{SFits}
 use borrow.Author.Tests.{lt-ltb, le-ltb, ltb-true, ltb-false}
 use Rattle.ground.specs.Signs.{partsOf}
 use Rattle.ground.specs.declared.signs.Parts.{Parts}
-use Rattle.text.specs.Text.{decimalIn, decimal, signedDecimal, Puts}
+use Rattle.text.specs.Text.{decimalIn, decimal, pair, signedDecimal, Puts}
 
 -- text put after text is the two in a row
 pub sets-append : (l : List ℕ) (i : ℕ) (a b : List ℕ) → sets (sets l i a) (i + length a) b ≡ sets l i (a ++ b)
@@ -33,6 +33,10 @@ then {x} {y} {z} {t} {u} {i} p q =
 -- one octet put
 pub one : (x : List ℕ) (i b : ℕ) → Puts x i (b ∷ []) (set x i b) (i + 1)
 one x i b = record { content = refl; place = refl }
+
+-- two octets put
+pub two : (x : List ℕ) (i a b : ℕ) → Puts x i (a ∷ b ∷ []) (set (set x i a) (i + 1) b) (i + 2)
+two x i a b = record { content = then (one x i a) (one (set x i a) (i + 1) b) .content; place = omega arith }
 
 -- nothing put
 pub none : {x : List ℕ} {i : ℕ} → Puts x i [] x i
@@ -66,6 +70,20 @@ decimal-small h = simp (lt-ltb _ _ h)
 pub decimal-more : {n : ℕ} → 10 ≤ n → decimal n ≡ decimal (n / 10) ++ ((48 + n % 10) ∷ [])
 unfolding decimal decimalIn
 decimal-more {n} h = simp (le-ltb _ _ h) (rw (decimal-room n (suc (n / 10)) (n / 10) (omega arith) (omega arith)))
+
+-- the same by two digits
+pub decimal-pair : {n : ℕ} → 10 ≤ n → n < 100 → decimal n ≡ pair n
+decimal-pair {n} h l = decimal-more h ∙ ap (λ (t : List ℕ). t ++ ((48 + n % 10) ∷ [])) (decimal-small (omega arith))
+
+pub decimal-pairs : {n : ℕ} → 100 ≤ n → decimal n ≡ decimal (n / 100) ++ pair (n % 100)
+decimal-pairs {n} h =
+    let a : n / 10 / 10 ≡ n / 100 = omega arith in
+    let b : n / 10 % 10 ≡ n % 100 / 10 = omega arith in
+    let c : n % 10 ≡ n % 100 % 10 = omega arith in
+    decimal-more (omega arith)
+    ∙ ap (λ (t : List ℕ). t ++ ((48 + n % 10) ∷ [])) (decimal-more (omega arith))
+    ∙ append-assoc (decimal (n / 10 / 10)) ((48 + n / 10 % 10) ∷ []) ((48 + n % 10) ∷ [])
+    ∙ (λ i. decimal (a i) ++ ((48 + b i) ∷ (48 + c i) ∷ []))
 
 -- n has at most k digits where it is below 10 ^ k
 pub decimal-length : (k n : ℕ) → n < 10 ^ suc k → length (decimal n) ≤ suc k

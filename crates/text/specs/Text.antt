@@ -17,6 +17,10 @@ decimalIn (suc most) n = cond (ltb n 10) ((48 + n) ∷ []) (decimalIn most (n / 
 unfoldable pub decimal : ℕ → List ℕ
 decimal n = decimalIn (suc n) n
 
+-- two digits
+abbrev pub pair : ℕ → List ℕ
+pair n = (48 + n / 10) ∷ (48 + n % 10) ∷ []
+
 -- a whole number in decimal, with a minus sign where it is below zero
 unfoldable pub signedDecimal : ℤ → List ℕ
 signedDecimal (pos n) = decimal n

@@ -1,9 +1,9 @@
 // The text of the programs, put into a lent buffer: what stood before and after it stays as it was.
 use ground::Whole;
 ghost use mathlib.Core.List.{[], _∷_};
-ghost use Prim.Native.Nat.{_+_, _≤_};
+ghost use Prim.Native.Nat.{_+_, _≤_, _<_};
 ghost use lib.ListN.{length};
-ghost use Rattle.text.specs.Text.{Puts, decimal, signedDecimal};
+ghost use Rattle.text.specs.Text.{Puts, decimal, pair, signedDecimal};
 
 // Puts one octet at `at`, and answers the place after it.
 pub fn put_byte(out: &mut [u8], at: usize, b: u8) -> usize
@@ -14,7 +14,7 @@ pub fn put_byte(out: &mut [u8], at: usize, b: u8) -> usize
     at + 1
 }
 
-// Puts n in decimal, and answers the place after it.
+// Puts n in decimal, two digits a step, and answers the place after it.
 pub fn put_decimal(out: &mut [u8], at: usize, n: u64) -> usize
     requires { ⌜ at + length (decimal n) ≤ length (now out) ⌝ }
     ensures { λ r. ⌜ Puts (now (out .entry)) at (decimal n) (now (out .exit)) r ⌝ }
@@ -22,8 +22,22 @@ pub fn put_decimal(out: &mut [u8], at: usize, n: u64) -> usize
     if n < 10 {
         return put_byte(out, at, (48 + n) as u8);
     }
-    let next = put_decimal(out, at, n / 10);
-    put_byte(out, next, (48 + n % 10) as u8)
+    if n < 100 {
+        return put_pair(out, at, n);
+    }
+    let next = put_decimal(out, at, n / 100);
+    put_pair(out, next, n % 100)
+}
+
+// Puts two digits.
+fn put_pair(out: &mut [u8], at: usize, n: u64) -> usize
+    requires { ⌜ n < 100 ⌝ }
+    requires { ⌜ at + 2 ≤ length (now out) ⌝ }
+    ensures { λ r. ⌜ Puts (now (out .entry)) at (pair n) (now (out .exit)) r ⌝ }
+{
+    out[at] = (48 + n / 10) as u8;
+    out[at + 1] = (48 + n % 10) as u8;
+    at + 2
 }
 
 // Puts x in decimal, with a minus sign where it is below zero, and answers the place after it.

@@ -10,10 +10,8 @@ use Rattle.ground.specs.declared.refusals.Outcome.{Outcome}
 use Rattle.ground.specs.declared.refusals.Outcome.the-variants.{Done, Refused}
 use Rattle.ground.proofs.AnswerLaws.{refusal-back}
 use Rattle.text.specs.Text.{decimal}
-use Rattle.layout.specs.declared.shapes.Shape.{Shape}
 use Rattle.layout.specs.declared.shapes.ShapeRead.{ShapeRead}
 use Rattle.layout.specs.declared.shapes.Kind.the-variants as shape
-use Rattle.layout.specs.declared.velocities.Velocity.{Velocity}
 use Rattle.layout.specs.declared.velocities.VelocityRead.{VelocityRead}
 use Rattle.layout.specs.declared.velocities.VelocityKind.the-variants as velocity
 use Rattle.layout.specs.Layout.{Row}

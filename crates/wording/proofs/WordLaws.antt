@@ -1,7 +1,7 @@
 -- A record's text over the layout table's rows is that of its parts, in the order in which they are put. Assumes nothing.
-use Prim.Native.Nat.{ℕ, zero, suc, _+_, _≤_, _<_}
+use Prim.Native.Nat.{ℕ, zero, suc, _+_, _≤_}
 use mathlib.Core.Path.{_≡_, refl, sym, ap, _∙_, subst}
-use mathlib.Core.List.{List, [], _∷_, _++_, append-assoc, append-nil}
+use mathlib.Core.List.{List, _++_, append-assoc, append-nil}
 use native.Mathlib.Nat.{add-zero, zero-add}
 use native.Mathlib.Numerals.{add-one}
 use native.Mathlib.Omega.{arith}
@@ -13,7 +13,7 @@ use mir.Facts.{toZ-ofZ}
 use Rattle.ground.specs.Answers.{done}
 use Rattle.ground.specs.declared.codes.LatitudeCode.{LatitudeCode}
 use Rattle.ground.specs.declared.codes.LongitudeCode.{LongitudeCode}
-use Rattle.ground.proofs.SignLaws.{wide-fits}
+use Rattle.ground.proofs.SignLaws.{wide-is}
 use Rattle.text.specs.Text.{PutsWithin}
 use Rattle.fields.specs.Fields.{Field, CodeOf, QuantityOf, Reporting}
 use Rattle.fields.specs.Quantities.{Held}
@@ -55,7 +55,7 @@ module _ {x y : List ℕ} {i j : ℕ} where
   lent {most} z f p = subst (λ (k : ℤ). PutsWithin most x i (numberText k) y j) (toZ-ofZ f) p
 
   pub widened : {most : ℕ} (z : ℤ) → SFits w32 z → PutsWithin most x i (numberText (toZ w64 (ofZ w64 (toZ w32 (ofZ w32 z))))) y j → PutsWithin most x i (numberText z) y j
-  widened {most} z f p = subst (λ (k : ℤ). PutsWithin most x i (numberText k) y j) (toZ-ofZ (wide-fits f) ∙ toZ-ofZ f) p
+  widened {most} z f p = subst (λ (k : ℤ). PutsWithin most x i (numberText k) y j) (wide-is f) p
 
 -- ---- shapes
 

@@ -3,9 +3,8 @@ use mathlib.Core.Path.{ap}
 use native.Mathlib.Omega.{arith}
 use mir.Syntax.{w64}
 use mir.Facts.{toZ-ofZ, toZ-pos}
-use Rattle.ground.proofs.SignLaws.{wide-fits}
+use Rattle.ground.proofs.SignLaws.{wide-fits, wide-is}
 use Rattle.printing.specs.Printing.{printedOf}
-use Rattle.printing.proofs.PrintingLaws.{wide-is}
 use Rattle.printing.specs.declared.printed.Printed.the-variants.{Refused}
 use borrow.Author.Needs.{needs}
 use Rattle.printing.proofs.printed.of_told.Statement.{statement}

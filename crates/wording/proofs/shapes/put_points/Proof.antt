@@ -1,9 +1,8 @@
 -- A point more at each turn.
-use Prim.Native.Nat.{_+_, _-_, _*_, _≤_}
+use Prim.Native.Nat.{_-_, _*_, _≤_}
 use mathlib.Core.Path.{_≡_, refl, _∙_}
 use native.Mathlib.Omega.{arith}
 use lib.ListN.{length}
-use denote.Ref.{now}
 use Rattle.text.specs.Text.{PutsWithin}
 use Rattle.text.proofs.OutputLaws.{none}
 use Rattle.wording.specs.Parts.{pointsText}

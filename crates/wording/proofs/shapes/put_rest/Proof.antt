@@ -1,5 +1,5 @@
 -- By the kind: what is reported of each code, one after another.
-use mathlib.Core.Path.{refl, _∙_}
+use mathlib.Core.Path.{_∙_}
 use native.Mathlib.Omega.{arith}
 use Rattle.ground.proofs.SignLaws.{wide-fits}
 use Rattle.quantities.specs.Places as place
