@@ -1,0 +1,46 @@
+#!/usr/bin/env python3
+"""Feeds a log to the lister in pieces of 1, 7 and 65536 octets, and says whether it gives one and the same text.
+
+  tests/pieces.py LOG    (a log: tests/listing.py log 50000000 > LOG; build the lister first: ./gad list </dev/null)
+"""
+import hashlib
+import os
+import subprocess
+import sys
+from pathlib import Path
+
+LISTER = Path(__file__).resolve().parent.parent / "target" / "bin" / "lister"
+
+
+def fed(log, size):
+    """The text's digest and its last line."""
+    reader = subprocess.Popen([str(LISTER)], stdin=subprocess.PIPE, stdout=subprocess.PIPE)
+    child = os.fork()
+    if child == 0:
+        out, view = reader.stdin.fileno(), memoryview(log)
+        for at in range(0, len(log), size):
+            piece = view[at:at + size]
+            while piece:
+                piece = piece[os.write(out, piece):]
+        os._exit(0)
+    reader.stdin.close()
+    digest, tail = hashlib.sha256(), b""
+    while block := reader.stdout.read(1 << 20):
+        digest.update(block)
+        tail = (tail + block)[-64:]
+    os.waitpid(child, 0)
+    return digest.hexdigest(), tail.splitlines()[-1].decode()
+
+
+def main(path):
+    log = Path(path).read_bytes()
+    answers = []
+    for size in (1, 7, 65536):
+        answers.append(fed(log, size))
+        print("pieces of %d: %s, sha256 %s" % (size, answers[-1][1], answers[-1][0]), flush=True)
+    print("the same" if len(set(answers)) == 1 else "NOT the same")
+    sys.exit(len(set(answers)) != 1)
+
+
+if __name__ == "__main__":
+    main(sys.argv[1])
