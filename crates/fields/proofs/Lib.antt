@@ -4,5 +4,5 @@ pub mod LongitudeLaws
 pub mod OneAnswer
 pub mod OneOfEach
 pub mod Kept
-pub mod Column
 pub mod QuantityLaws
+pub mod Column

@@ -108,7 +108,3 @@ module _ (rows : List Row) (tidied : Tidy rows) where
   -- what is read and written again is the same with its spare bits zero
   pub written-again : (s : List ℕ) → message rows (read s rows) ≡ spareZero rows s
   written-again s = ap (octets (lengthOf rows)) (packed-same _ _ rows 0 0 (all-map (Found rows) _ (λ r found. read-row s rows r found) rows (tidied .found)))
-
-  -- the same numbers make the same message
-  pub message-same : (v w : Field → ℕ) → ((f : Field) → v f ≡ w f) → message rows v ≡ message rows w
-  message-same v w same = ap (octets (lengthOf rows)) (packed-same _ _ rows 0 0 (all-map (Found rows) _ (λ r found. same (r .field)) rows (tidied .found)))

@@ -16,7 +16,7 @@ use Rattle.fields.specs.Fields as field
 use Rattle.layout.specs.Shapes.{zeroLatitude, zeroLongitude}
 use Rattle.quantities.specs.Shapes.{zeroDegrees}
 use Rattle.records.specs.Points.{PointCodes}
-use Rattle.records.proofs.ZeroLaws.{zero-coded}
+use Rattle.quantities.proofs.ZeroLaws.{zero-coded}
 
 abbrev pub CodesAt : List Nanodegrees → List Nanodegrees → ℕ → List LatitudeCode → List LongitudeCode → ℕ → Type 0
 CodesAt xs ys n cs ds i = PointCodes (ltb i n) (getD xs i zeroDegrees) (getD ys i zeroDegrees) (getD cs i zeroLatitude) (getD ds i zeroLongitude)

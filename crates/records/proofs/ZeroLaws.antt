@@ -8,17 +8,13 @@ use Rattle.ground.specs.Answers.{done, refused}
 use Rattle.ground.proofs.AnswerLaws.{done-not-refused}
 use Rattle.fields.specs.Fields.{Field, CodeOf, QuantityOf, Coding}
 use Rattle.fields.proofs.OneAnswer.{coding-one}
-use Rattle.fields.proofs.Kept.{own-set}
 use Rattle.quantities.specs.Places.{zeroCode, zeroQuantity}
-use Rattle.quantities.proofs.ZeroLaws.{hasZero, zero-reported, codes-zero}
+use Rattle.quantities.proofs.ZeroLaws.{hasZero, codes-zero}
 
 pub not-refused : (f : Field) (x : QuantityOf f) (c : CodeOf f) (n : ℕ) → Coding f x (done c) → Coding f x (refused n) → ⊥
 not-refused f x c n p q = done-not-refused (coding-one f x (done c) (refused n) p q)
 
 module _ (f : Field) (has : hasZero f ≡ true) where
-  pub zero-coded : Coding f (zeroQuantity f) (done (zeroCode f))
-  zero-coded = own-set f (zeroCode f) (zeroQuantity f) (zero-reported f has)
-
   module _ (x : QuantityOf f) where
     pub zero-has-code : x ≡ zeroQuantity f → (c : CodeOf f) → Coding f x (done c) → c ≡ zeroCode f
     zero-has-code e c p = let d = codes-zero f x (done c) has e p in cc
