@@ -7,7 +7,7 @@ use native.Mathlib.Omega.{arith}
 use lib.ListN.{length, take, drop, length-drop, length-append}
 use lib.Seq.{drop-drop, length-take-le, take-take}
 use lib.Dec.{eqb}
-use borrow.Author.Tests.{eqb-false}
+use borrow.Author.Tests.{eqb-true, eqb-false}
 use borrow.Rule.Slice.PartMut.{putMid, postOf, take-put}
 use Rattle.listing.specs.Streaming.{Lists, longestStep}
 use Rattle.listing.specs.declared.Listed.{Listed}
@@ -18,14 +18,17 @@ use Rattle.lister.proofs.Moves.{drop-take}
 
 -- ---- the steps
 
--- a run that is not over has not ended
-not-over : (ended written : Bool) {over : Bool} → over ≡ (ended || not written) → over ≡ false → ended ≡ false
-not-over true written o f = sym o ∙ f
-not-over false written o f = refl
+-- a run that goes on has not ended
+go-on : (ended written over : Bool) → over ≡ (ended || not written) → over ≡ false → ended ≡ false
+go-on true written over o f = sym o ∙ f
+go-on false written over o f = refl
+
+pub not-ended : {buf x y : List ℕ} {h r : Held} → Turned buf x y h r → r .ended ≡ false → foundIn (length x) buf h .ended ≡ false
+not-ended {buf} {x} {y} {h} {r} t f = go-on (foundIn (length x) buf h .ended) (r .written) (r .ended) (t .ended) f
 
 pub turned : {x y : List ℕ} (buf : List ℕ) (h : Held) (r : Listed) (over written : Bool) → over ≡ (r .ended || not written) → Sound buf h
     → Lists (h .last) (h .unbroken) (octetsHeld buf h) x y r
-    → Turned buf x y h (record { at = h .at + r .taken; fill = h .fill; unbroken = r .unbroken; last = h .last; ended = over })
+    → Turned buf x y h (record { at = h .at + r .taken; fill = h .fill; unbroken = r .unbroken; last = h .last; written = written; ended = over })
 turned buf h r over written either o l =
     let d = length-drop (h .at) buf in
     let n = length-take-le (h .fill - h .at) (drop (h .at) buf) (omega (arith, o .order, o .inside)) in
@@ -37,7 +40,7 @@ turned buf h r over written either o l =
       unbroken = l .unbroken;
       same-fill = refl;
       same-last = refl;
-      ended = λ on. sym (l .ended) ∙ not-over (r .ended) written either on;
+      ended = either ∙ ap (λ (e : Bool). e || not written) (l .ended);
       content = l .content;
     }
 
@@ -49,7 +52,7 @@ some-more m (suc n) e = omega arith
 pub refilled : (buf b v : List ℕ) (h : Held) (n : ℕ) → Sound buf h → length b ≡ length buf → take (h .fill - h .at) b ≡ octetsHeld buf h
     → (let B : List ℕ = putMid (h .fill - h .at) (length b - (h .fill - h .at)) b v in n ≤ length (take (length B - (h .fill - h .at)) (drop (h .fill - h .at) B)))
     → Refilled buf (putMid (h .fill - h .at) (length b - (h .fill - h .at)) b v) h
-    (record { at = 0; fill = h .fill - h .at + n; unbroken = h .unbroken; last = eqb n 0; ended = false })
+    (record { at = 0; fill = h .fill - h .at + n; unbroken = h .unbroken; last = eqb n 0; written = h .written; ended = false })
 refilled buf b v h n o l moved read =
     let m : ℕ = h .fill - h .at in
     let B : List ℕ = putMid m (length b - m) b v in
@@ -64,6 +67,9 @@ refilled buf b v h n o l moved read =
       kept = rw (f, take-take m (m + n) B (omega arith)) (take-put m (length b - m) b v i ∙ moved);
       unbroken = refl;
       grown = some-more m n;
+      last = λ e.
+          let z : m + n - 0 ≡ m = omega (arith, eqb-true n 0 e) in
+          ap (λ (k : ℕ). take k B) z ∙ take-put m (length b - m) b v i ∙ moved;
     }
 
 -- ---- nearer to the end
@@ -93,7 +99,7 @@ module _ {buf x y : List ℕ} {h m : Held} (t : Turned buf x y h m) where
   -- one that takes none holds fewer than 95 octets: it reads more, or finds that nothing is left to read
   pub read-nearer : {after : List ℕ} {r : Held} → longestStep ≤ length x → Sound buf h → m .ended ≡ false → m .at ≡ h .at → Refilled buf after m r → turnsLeft r < turnsLeft h
   read-nearer {after} {r} room o on same f =
-      let w = stuck (length x) (h .last) (octetsHeld buf h) (h .unbroken) room (omega (arith, t .place)) (t .ended on) in
+      let w = stuck (length x) (h .last) (octetsHeld buf h) (h .unbroken) room (omega (arith, t .place)) (not-ended t on) in
       let c = counted (length x) (h .last) (octetsHeld buf h) (h .unbroken) .0 in
       let d = length-drop (h .at) buf in
       let n = length-take-le (h .fill - h .at) (drop (h .at) buf) (omega (arith, o .order, o .inside)) in

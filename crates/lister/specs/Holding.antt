@@ -1,6 +1,6 @@
 -- What the program's steps do to the octets that it holds: each is a turn of `Runs`, but for the reading and the writing. Assumes nothing.
 use Prim.Native.Nat.{ℕ, _+_, _-_, _*_, _≤_, _<_}
-use mathlib.Core.Bool.{Bool, true, false}
+use mathlib.Core.Bool.{Bool, true, false, not, _||_}
 use mathlib.Core.Path.{_≡_}
 use mathlib.Core.List.{List}
 use lib.ListN.{length, take, drop}
@@ -28,15 +28,16 @@ pub record Turned (buf x y : List ℕ) (h r : Held) : Type 0 where
   pub unbroken : r .unbroken ≡ foundIn (length x) buf h .unbroken
   pub same-fill : r .fill ≡ h .fill
   pub same-last : r .last ≡ h .last
-  pub ended : r .ended ≡ false → foundIn (length x) buf h .ended ≡ false
+  pub ended : r .ended ≡ (foundIn (length x) buf h .ended || not (r .written))
   pub content : y ≡ sets x 0 (foundIn (length x) buf h .text)
 
--- what was read stands behind what was held, and if nothing was, nothing is left to read
+-- what was read stands behind what was held; nothing is left to read exactly where nothing was read
 pub record Refilled (before after : List ℕ) (h r : Held) : Type 0 where
   pub sound : Sound after r
   pub kept : take (h .fill - h .at) (octetsHeld after r) ≡ octetsHeld before h
   pub unbroken : r .unbroken ≡ h .unbroken
   pub grown : r .last ≡ false → h .fill - h .at < r .fill - r .at
+  pub last : r .last ≡ true → octetsHeld after r ≡ octetsHeld before h
 
 -- no log has so many frames
 abbrev pub mostFrames : ℕ
@@ -50,7 +51,13 @@ mayRead false = 100
 abbrev pub turnsLeft : Held → ℕ
 turnsLeft h = 200 * (mostFrames - h .unbroken) + mayRead (h .last) + (95 - (h .fill - h .at))
 
+-- A TURN: what is held is listed; and where that lists no frame and ends nothing, more is read behind it
+pub data Stepped (buf x y after : List ℕ) (h r : Held) : Type 0 where
+  lists : Turned buf x y h r → after ≡ buf → Stepped buf x y after h r
+  reads : (m : Held) → Turned buf x y h m → m .ended ≡ false → Refilled buf after m r → Stepped buf x y after h r
+
 -- a turn goes on nearer to the end
-pub record Goes (buf : List ℕ) (h r : Held) : Type 0 where
-  pub sound : Sound buf r
+pub record Goes (buf x y after : List ℕ) (h r : Held) : Type 0 where
+  pub stepped : Stepped buf x y after h r
+  pub sound : Sound after r
   pub nearer : r .ended ≡ false → turnsLeft r < turnsLeft h

@@ -17,7 +17,9 @@ struct Held {
     unbroken: u64,
     // nothing is left to read
     last: bool,
-    // the last line is written, or the output is closed
+    // the last write was done; else the output is closed
+    written: bool,
+    // the last line is put, or the output is closed
     ended: bool,
 }
 
@@ -36,6 +38,7 @@ fn run(out: &mut [u8], buf: &mut [u8])
         fill: 0,
         unbroken: 0,
         last: false,
+        written: true,
         ended: false,
     };
     while held.unbroken < MOST_FRAMES {
@@ -51,7 +54,7 @@ fn turn(out: &mut [u8], buf: &mut [u8], held: Held) -> Held
     requires { ⌜ longestStep ≤ length (now out) ⌝ }
     requires { ⌜ Sound (now buf) held ⌝ }
     requires { ⌜ held .unbroken < mostFrames ⌝ }
-    ensures { λ r. ⌜ Goes (now (buf .exit)) held r ⌝ }
+    ensures { λ r. ⌜ Goes (now (buf .entry)) (now (out .entry)) (now (out .exit)) (now (buf .exit)) held r ⌝ }
 {
     let listed = list_held(out, buf, held);
     if listed.ended {
@@ -81,6 +84,7 @@ fn list_held(out: &mut [u8], buf: &[u8], held: Held) -> Held
         fill,
         unbroken: listed.unbroken,
         last,
+        written,
         ended,
     }
 }
@@ -111,6 +115,7 @@ fn refill(buf: &mut [u8], held: Held) -> Held
         fill: kept + more,
         unbroken: held.unbroken,
         last: more == 0,
+        written: held.written,
         ended: false,
     }
 }

@@ -1,6 +1,7 @@
 -- The run is over; or a frame was listed; or more was read.
-use mathlib.Core.Path.{sym, subst, _∙_}
+use mathlib.Core.Path.{refl, sym, subst, _∙_}
 use lib.Dec.{T}
+use Rattle.lister.specs.Holding.{lists, reads}
 use Rattle.lister.proofs.TurnLaws.{listed-nearer, read-nearer}
 use borrow.Author.Needs.{needs}
 use Rattle.lister.proofs.turn.Statement.{statement}
@@ -17,6 +18,7 @@ same-length-2 c = search needs
 
 returns : tie.Need-returns
 returns c = record {
+  stepped = lists (c .before .before .before .list-held .ensures) refl;
   sound = c .before .before .before .list-held .ensures .sound;
   nearer = λ on. absurd (subst T (sym (c .if1 .taken) ∙ on) tt);
 }
@@ -28,7 +30,7 @@ same-length-4 : tie.Need-same-length-4
 same-length-4 c = search needs
 
 returns-2 : tie.Need-returns-2
-returns-2 c = record { sound = c .before .before .before .before .before .before .list-held .ensures .sound; nearer = λ _. listed-nearer (c .before .before .before .before .before .before .list-held .ensures) (c .before .before .before .before .before .before .before .before .before .before .before .pre .1 .1) (c .if2 .taken) }
+returns-2 c = record { stepped = lists (c .before .before .before .before .before .before .list-held .ensures) refl; sound = c .before .before .before .before .before .before .list-held .ensures .sound; nearer = λ _. listed-nearer (c .before .before .before .before .before .before .list-held .ensures) (c .before .before .before .before .before .before .before .before .before .before .before .pre .1 .1) (c .if2 .taken) }
 
 refill-requires : tie.Need-refill-requires
 refill-requires c κs = search needs
@@ -41,6 +43,7 @@ same-length-6 c = search needs
 
 returns-3 : tie.Need-returns-3
 returns-3 c = record {
+  stepped = reads _ (c .before .before .before .before .before .before .before .before .before .before .list-held .ensures) (c .before .before .before .before .before .before .before .if1 .left) (c .before .before .refill .ensures);
   sound = c .before .before .refill .ensures .sound;
   nearer = λ _. read-nearer (c .before .before .before .before .before .before .before .before .before .before .list-held .ensures) (c .before .before .before .before .before .before .before .before .before .before .before .before .before .before .before .pre .0) (c .before .before .before .before .before .before .before .before .before .before .before .before .before .before .before .pre .1 .0) (c .before .before .before .before .before .before .before .if1 .left) (c .before .before .before .before .if2 .left) (c .before .before .refill .ensures);
 }
