@@ -4,6 +4,7 @@ use mathlib.Core.Bool.{true}
 use mathlib.Core.List.{List, [], _∷_, _++_}
 use lib.ListN.{length, take, drop}
 use Rattle.text.specs.Text.{decimal}
+use Rattle.printing.specs.Printing.{endText}
 use Rattle.wording.specs.Wording.{messageText}
 use Rattle.frames.specs.Frames.{frameOf}
 use Rattle.frames.specs.declared.Frame.{Frame}
@@ -17,16 +18,13 @@ lineOf number kind message = decimal number ++ 32 ∷ decimal kind ++ 32 ∷ mes
 unfoldable pub brokenOf : ℕ → List ℕ
 brokenOf number = decimal number ++ 32 ∷ 45 ∷ 32 ∷ 49 ∷ 49 ∷ 10 ∷ []
 
--- the last line: end and the number of unbroken frames
-unfoldable pub endOf : ℕ → List ℕ
-endOf unbroken = 101 ∷ 110 ∷ 100 ∷ 32 ∷ decimal unbroken ++ 10 ∷ []
-
--- what is listed for the frame at the start of s, after so many unbroken ones; a broken one ends the run
+-- what is listed for the frame at the start of s, after so many unbroken ones; a broken one ends the run. The last line,
+-- `endText`: end and the number of unbroken frames
 unfoldable pub textOf : Frame → ℕ → List ℕ → List ℕ
 textOf (Whole kind size) unbroken s = lineOf (unbroken + 1) kind (take size (drop 4 s))
-textOf Broken unbroken s = brokenOf (unbroken + 1) ++ endOf unbroken
+textOf Broken unbroken s = brokenOf (unbroken + 1) ++ endText unbroken
 textOf More unbroken s = []
-textOf End unbroken s = endOf unbroken
+textOf End unbroken s = endText unbroken
 
 -- after an unbroken frame, with the size of its message, the rest; after anything else nothing
 abbrev pub onWhole : Frame → (ℕ → List ℕ) → List ℕ

@@ -4,9 +4,10 @@ use mathlib.Core.Path.{_≡_}
 use mathlib.Core.Bool.{Bool, true, false}
 use mathlib.Core.List.{List, [], _∷_, _++_}
 use lib.ListN.{length}
+use Rattle.printing.specs.Printing.{endText}
 use Rattle.frames.specs.Frames.{frameOf}
 use Rattle.frames.specs.declared.Frame.the-variants.{Broken}
-use Rattle.listing.specs.Listing.{lineOf, brokenOf, endOf}
+use Rattle.listing.specs.Listing.{lineOf, brokenOf}
 
 pub record Message : Type 0 where
   pub kind : ℕ
@@ -30,5 +31,5 @@ linesOf n (m ∷ ms) = lineOf (n + 1) (m .kind) (m .octets) ++ linesOf (n + 1) m
 
 -- the lines behind those of n messages
 unfoldable pub closing : Bool → ℕ → List ℕ
-closing false n = endOf n
-closing true n = brokenOf (n + 1) ++ endOf n
+closing false n = endText n
+closing true n = brokenOf (n + 1) ++ endText n

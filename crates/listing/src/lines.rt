@@ -4,7 +4,7 @@ ghost use Prim.Native.Nat.{_+_, _≤_, _<_, _^_};
 ghost use lib.ListN.{length};
 ghost use Rattle.text.specs.Text.{PutsWithin};
 ghost use Rattle.frames.specs.Frames.{octetsOf};
-ghost use Rattle.listing.specs.Listing.{lineOf, brokenOf, endOf, textOf};
+ghost use Rattle.listing.specs.Listing.{lineOf, brokenOf, textOf};
 ghost use Rattle.listing.specs.Streaming.{longestStep};
 
 // Puts what is listed for the frame at the start of s, after so many unbroken ones.
@@ -19,10 +19,10 @@ pub fn put_step(out: &mut [u8], at: usize, frame: Frame, s: &[u8], unbroken: u64
         Frame::Whole { kind, size } => put_line(out, at, number, kind, &s[4..4 + size]),
         Frame::Broken => {
             let end = put_broken(out, at, number);
-            put_end(out, end, unbroken)
+            printing::put_end(out, end, unbroken)
         }
         Frame::More => at,
-        Frame::End => put_end(out, at, unbroken),
+        Frame::End => printing::put_end(out, at, unbroken),
     }
 }
 
@@ -44,13 +44,4 @@ fn put_broken(out: &mut [u8], at: usize, number: u64) -> usize
 {
     let rest = text::put_decimal(out, at, number);
     text::put_bytes(out, rest, b" - 11\n")
-}
-
-fn put_end(out: &mut [u8], at: usize, unbroken: u64) -> usize
-    requires { ⌜ at + 25 ≤ length (now out) ⌝ }
-    ensures { λ r. ⌜ PutsWithin 25 (now (out .entry)) at (endOf unbroken) (now (out .exit)) r ⌝ }
-{
-    let number = text::put_bytes(out, at, b"end ");
-    let newline = text::put_decimal(out, number, unbroken);
-    text::put_byte(out, newline, 10)
 }

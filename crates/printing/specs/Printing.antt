@@ -39,4 +39,4 @@ lineText number printed = decimal number ++ 32 ∷ printedText printed ++ 10 ∷
 
 -- end NUMBER, and a newline
 unfoldable pub endText : ℕ → List ℕ
-endText lines = 101 ∷ 110 ∷ 100 ∷ 32 ∷ decimal lines ++ 10 ∷ []
+endText count = 101 ∷ 110 ∷ 100 ∷ 32 ∷ decimal count ++ 10 ∷ []

@@ -1,4 +1,4 @@
-// What the coder prints: for each line its number and the answer, and at the end how many lines there were.
+// What the programs print: the coder for each line its number and the answer, and every program at the end how many there were.
 mod output;
 mod printed;
 
