@@ -11,7 +11,7 @@ use Rattle.layout.specs.declared.shapes.Kind.{Kind}
 use Rattle.layout.specs.declared.shapes.Kind.the-variants as shape
 use Rattle.layout.specs.declared.velocities.VelocityKind.{VelocityKind}
 use Rattle.layout.specs.declared.velocities.VelocityKind.the-variants as velocity
-use Rattle.layout.specs.Layout.{Field, Row, shapeRows, velocityRows}
+use Rattle.layout.specs.Layout.{Field, Row, shapeRows, velocityRows, typeOf}
 use Rattle.layout.specs.Rows.{tag, widthOf}
 use Rattle.layout.proofs.TidyLaws.{Tidy, both, tidy-by-test}
 use Rattle.layout.proofs.PolygonLaws.{point-row, point-found, none-found, polygon-tidy}
@@ -32,6 +32,17 @@ velocity-tidy velocity.Horizontal = tidy-by-test _ refl
 velocity-tidy velocity.HorizontalVertical = tidy-by-test _ refl
 velocity-tidy velocity.HorizontalUncertain = tidy-by-test _ refl
 velocity-tidy velocity.HorizontalVerticalUncertain = tidy-by-test _ refl
+
+-- a type's number has four bits
+pub type-small : (k : Kind) → typeOf k < 16
+type-small shape.Nothing = omega arith
+type-small shape.Point = omega arith
+type-small shape.Circle = omega arith
+type-small shape.Ellipse = omega arith
+type-small shape.Polygon = omega arith
+type-small shape.AltitudePoint = omega arith
+type-small shape.AltitudeEllipsoid = omega arith
+type-small shape.Arc = omega arith
 
 -- ---- widths
 

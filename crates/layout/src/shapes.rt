@@ -11,6 +11,9 @@ use ground::OrientationCode;
 use ground::Outcome;
 use ground::UncertaintyCode;
 ghost use mathlib.Core.Path.{_≡_};
+ghost use Prim.Native.Nat.{_*_};
+ghost use Rattle.layout.specs.Layout.{typeOf, shapeRows};
+ghost use Rattle.layout.specs.Rows.{lengthOf};
 ghost use Rattle.layout.specs.Shapes.{blankShape};
 
 pub enum Kind {
@@ -72,5 +75,44 @@ pub fn blank_shape(kind: Kind) -> Shape
         count: 0,
         latitudes: [LatitudeCode(false, 0); 15],
         longitudes: [LongitudeCode(0); 15],
+    }
+}
+
+// The type's number.
+pub fn type_number(kind: Kind) -> u8
+    ensures { λ r. ⌜ r ≡ typeOf kind ⌝ }
+{
+    match kind {
+        Kind::Nothing => 0,
+        Kind::Point => 0,
+        Kind::Circle => 1,
+        Kind::Ellipse => 3,
+        Kind::Polygon => 5,
+        Kind::AltitudePoint => 8,
+        Kind::AltitudeEllipsoid => 9,
+        Kind::Arc => 10,
+    }
+}
+
+// The type in bits 8 to 5; a polygon's count is added to it.
+pub fn first_octet(kind: Kind) -> u8
+    ensures { λ r. ⌜ r ≡ 16 * typeOf kind ⌝ }
+{
+    16 * type_number(kind)
+}
+
+// The length of a kind's message; n is a polygon's count.
+pub fn message_length(kind: Kind, n: u8) -> usize
+    ensures { λ r. ⌜ r ≡ lengthOf (shapeRows kind n) ⌝ }
+{
+    match kind {
+        Kind::Nothing => 0,
+        Kind::Point => 7,
+        Kind::Circle => 8,
+        Kind::Ellipse => 11,
+        Kind::Polygon => 1 + 6 * (n as usize),
+        Kind::AltitudePoint => 9,
+        Kind::AltitudeEllipsoid => 14,
+        Kind::Arc => 13,
     }
 }

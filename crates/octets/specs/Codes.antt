@@ -2,12 +2,12 @@
 use mathlib.Core.Bool.{Bool, true, false, cond}
 use Prim.Native.Nat.{ℕ, _+_, _-_, _*_}
 use lib.Dec.{eqb, ltb}
-use mathlib.Core.List.{List}
+use mathlib.Core.List.{List, _++_}
 use lib.IntN.{ℤ, pos, negsuc}
 use Rattle.ground.specs.declared.codes.AltitudeCode.{AltitudeCode}
 use Rattle.ground.specs.declared.codes.LatitudeCode.{LatitudeCode}
 use Rattle.ground.specs.declared.codes.LongitudeCode.{LongitudeCode}
-use Rattle.octets.specs.Bits.{bits}
+use Rattle.octets.specs.Bits.{bits, octets}
 
 -- a sign's bit, and the sign of a bit
 abbrev pub bitOf : Bool → ℕ
@@ -39,3 +39,10 @@ longitudeIn s first = record { 0 = fromComplement (bits s first 24) }
 
 abbrev pub altitudeIn : List ℕ → ℕ → AltitudeCode
 altitudeIn s first = record { 0 = signOf (bits s first 1); 1 = bits s (first + 1) 15 }
+
+-- the six octets of a position, and the two of an altitude
+abbrev pub position : LatitudeCode → LongitudeCode → List ℕ
+position latitude longitude = octets 3 (latitudeBits latitude) ++ octets 3 (complement (longitude .0))
+
+abbrev pub level : AltitudeCode → List ℕ
+level c = octets 2 (bitOf (c .0) * 32768 + c .1)

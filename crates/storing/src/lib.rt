@@ -1,4 +1,5 @@
 // Numbers and codes stored as octets in a lent buffer, high octet first.
+use ground::AltitudeCode;
 use ground::LatitudeCode;
 use ground::LongitudeCode;
 ghost use mathlib.Core.Path.{_≡_};
@@ -7,7 +8,7 @@ ghost use Prim.Native.Nat.{_+_, _<_, _≤_};
 ghost use lib.ListN.{length};
 ghost use lib.Seq.{sets};
 ghost use Rattle.octets.specs.Bits.{octets};
-ghost use Rattle.octets.specs.Codes.{complement, latitudeBits};
+ghost use Rattle.octets.specs.Codes.{complement, latitudeBits, position, level};
 
 // Stores one octet.
 pub fn put_octet(out: &mut [u8], at: usize, n: u8)
@@ -64,4 +65,39 @@ pub fn complement_of(longitude: LongitudeCode) -> u32
         return n as u32;
     }
     16777216
+}
+
+// Stores the six octets of a position.
+pub fn put_position(out: &mut [u8], at: usize, latitude: LatitudeCode, longitude: LongitudeCode)
+    requires { ⌜ at + 6 ≤ length (now out) ⌝ }
+    requires { ⌜ latitude .1 < 8388608 ⌝ }
+    ensures { λ _. ⌜ now (out .exit) ≡ sets (now (out .entry)) at (position latitude longitude) ⌝ }
+{
+    put_latitude(out, at, latitude);
+    let turn = complement_of(longitude);
+    put_three(out, at + 3, turn);
+}
+
+// Stores the two octets of an altitude.
+pub fn put_altitude(out: &mut [u8], at: usize, altitude: AltitudeCode)
+    requires { ⌜ at + 2 ≤ length (now out) ⌝ }
+    requires { ⌜ altitude .1 < 32768 ⌝ }
+    ensures { λ _. ⌜ now (out .exit) ≡ sets (now (out .entry)) at (level altitude) ⌝ }
+{
+    if altitude.0 {
+        put_word(out, at, 32768 + altitude.1);
+        return;
+    }
+    put_word(out, at, altitude.1);
+}
+
+// Stores four octets.
+pub fn put_four(out: &mut [u8], at: usize, a: u8, b: u8, c: u8, d: u8)
+    requires { ⌜ at + 4 ≤ length (now out) ⌝ }
+    ensures { λ _. ⌜ now (out .exit) ≡ sets (now (out .entry)) at (a ∷ b ∷ c ∷ d ∷ []) ⌝ }
+{
+    out[at] = a;
+    out[at + 1] = b;
+    out[at + 2] = c;
+    out[at + 3] = d;
 }

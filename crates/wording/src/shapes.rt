@@ -13,7 +13,6 @@ ghost use lib.ListN.{length};
 ghost use lib.Signed.{mag};
 ghost use Rattle.text.specs.Text.{PutsWithin};
 ghost use Rattle.layout.specs.declared.shapes.Kind.the-variants.{AltitudeEllipsoid, Arc};
-ghost use Rattle.layout.specs.Layout.{typeOf};
 ghost use Rattle.quantities.specs.Shapes.{TakesShape};
 ghost use Rattle.wording.specs.Wording.{shapeText};
 ghost use Rattle.wording.specs.Parts.{headText, positionText, axesText, pointsText, restText, PointsHeld};
@@ -24,7 +23,7 @@ pub fn put(out: &mut [u8], at: usize, shape: Shape) -> usize
     ensures { λ r. ⌜ PutsWithin 680 (now (out .entry)) at (shapeText shape) (now (out .exit)) r ⌝ }
 {
     let kind = shape.kind;
-    let a = put_head(out, at, type_number(kind));
+    let a = put_head(out, at, layout::type_number(kind));
     if let Kind::Polygon = kind {
         let latitudes = shape.latitudes;
         let longitudes = shape.longitudes;
@@ -35,21 +34,6 @@ pub fn put(out: &mut [u8], at: usize, shape: Shape) -> usize
     let longitude = shape.longitude;
     let b = put_position(out, a, latitude, longitude);
     put_rest(out, b, shape)
-}
-
-fn type_number(kind: Kind) -> u8
-    ensures { λ r. ⌜ r ≡ typeOf kind ⌝ }
-{
-    match kind {
-        Kind::Nothing => 0,
-        Kind::Point => 0,
-        Kind::Circle => 1,
-        Kind::Ellipse => 3,
-        Kind::Polygon => 5,
-        Kind::AltitudePoint => 8,
-        Kind::AltitudeEllipsoid => 9,
-        Kind::Arc => 10,
-    }
 }
 
 // Puts the answer 0 and the type.

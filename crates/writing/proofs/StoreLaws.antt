@@ -38,9 +38,11 @@ use Rattle.layout.specs.Rows.{lengthOf, message}
 use Rattle.layout.specs.Demands.{Listed, CountSound, InFields}
 use Rattle.layout.specs.Shapes.{rowsOf, valueOf, zeroLatitude, zeroLongitude}
 use Rattle.layout.proofs.TidyLaws.{message-length}
+use Rattle.layout.proofs.KindLaws.{type-small}
 use Rattle.layout.proofs.PolygonLaws.{polygon-length}
 use Rattle.layout.proofs.MessageLaws.{Position, positionOctets, pointOctets, point-message, circle-message, ellipse-message, altitude-point-message, ellipsoid-message, arc-message, polygon-message}
-use Rattle.writing.specs.Storing.{position, positions, rest, Storable}
+use Rattle.octets.specs.Codes.{position}
+use Rattle.writing.specs.Storing.{positions, rest, Storable}
 use Rattle.writing.proofs.LimitLaws.{points-within}
 
 -- ---- runs of stores
@@ -85,16 +87,6 @@ module _ (x : Shape) where
       ∙ ap (λ (l : List ℕ). l ++ position (getD (x .latitudes) n zeroLatitude) (getD (x .longitudes) n zeroLongitude)) (points-same n)
 
   -- ---- the messages
-
-  type-small : (k : Kind) → typeOf k < 16
-  type-small Nothing = omega arith
-  type-small Point = omega arith
-  type-small Circle = omega arith
-  type-small Ellipse = omega arith
-  type-small Polygon = omega arith
-  type-small AltitudePoint = omega arith
-  type-small AltitudeEllipsoid = omega arith
-  type-small Arc = omega arith
 
   abbrev Fields : Kind → Type 0
   Fields k = InFields (shapeRows k (x .count)) (valueOf x)

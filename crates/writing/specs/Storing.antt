@@ -2,24 +2,16 @@
 use mathlib.Core.List.{List, [], _∷_, _++_}
 use Prim.Native.Nat.{ℕ, zero, suc, _+_, _*_, _≤_}
 use lib.ListN.{getD, drop}
-use Rattle.ground.specs.declared.codes.AltitudeCode.{AltitudeCode}
 use Rattle.ground.specs.declared.codes.LatitudeCode.{LatitudeCode}
 use Rattle.ground.specs.declared.codes.LongitudeCode.{LongitudeCode}
 use Rattle.octets.specs.Bits.{octets}
-use Rattle.octets.specs.Codes.{bitOf, complement, latitudeBits}
+use Rattle.octets.specs.Codes.{position, level}
 use Rattle.layout.specs.declared.shapes.Kind.{Kind}
 use Rattle.layout.specs.declared.shapes.Kind.the-variants.{Nothing, Point, Circle, Ellipse, Polygon, AltitudePoint, AltitudeEllipsoid, Arc}
 use Rattle.layout.specs.declared.shapes.Shape.{Shape}
 use Rattle.layout.specs.Rows.{lengthOf, message}
 use Rattle.layout.specs.Demands.{Listed, CountSound, InFields}
 use Rattle.layout.specs.Shapes.{rowsOf, valueOf, zeroLatitude, zeroLongitude}
-
--- six octets of a position, and two of an altitude
-abbrev pub position : LatitudeCode → LongitudeCode → List ℕ
-position latitude longitude = octets 3 (latitudeBits latitude) ++ octets 3 (complement (longitude .0))
-
-abbrev pub level : AltitudeCode → List ℕ
-level c = octets 2 (bitOf (c .0) * 32768 + c .1)
 
 -- the octets of the first n of these points
 abbrev pub positions : List LatitudeCode → List LongitudeCode → ℕ → List ℕ

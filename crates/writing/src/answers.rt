@@ -62,7 +62,7 @@ fn fitted(shape: Shape, room: usize) -> Outcome
         return Outcome::Refused(Refusal::OutOfRange);
     }
     let kind = shape.kind;
-    if room < length_of(kind, shape.count) {
+    if room < layout::message_length(kind, shape.count) {
         return Outcome::Refused(Refusal::BufferTooShort);
     }
     Outcome::Done
@@ -73,23 +73,7 @@ pub fn written(outcome: Outcome, kind: Kind, n: u8) -> usize
     ensures { λ r. ⌜ r ≡ handed outcome (lengthOf (shapeRows kind n)) 0 ⌝ }
 {
     match outcome {
-        Outcome::Done => length_of(kind, n),
+        Outcome::Done => layout::message_length(kind, n),
         Outcome::Refused(_) => 0,
-    }
-}
-
-// The length of a kind's message; n is a polygon's count.
-pub fn length_of(kind: Kind, n: u8) -> usize
-    ensures { λ r. ⌜ r ≡ lengthOf (shapeRows kind n) ⌝ }
-{
-    match kind {
-        Kind::Nothing => 0,
-        Kind::Point => 7,
-        Kind::Circle => 8,
-        Kind::Ellipse => 11,
-        Kind::Polygon => 1 + 6 * (n as usize),
-        Kind::AltitudePoint => 9,
-        Kind::AltitudeEllipsoid => 14,
-        Kind::Arc => 13,
     }
 }

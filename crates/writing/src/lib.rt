@@ -31,6 +31,6 @@ pub fn shape_outcome(shape: Shape) -> Outcome
     ensures { λ r. ⌜ ShapeAnswer shape (lengthOf (rowsOf shape)) (outcomeNumber r) ⌝ }
 {
     let kind = shape.kind;
-    let room = answers::length_of(kind, shape.count);
+    let room = layout::message_length(kind, shape.count);
     answers::outcome(shape, room)
 }

@@ -7,7 +7,7 @@ ghost use lib.ListN.{length};
 ghost use lib.Seq.{sets};
 ghost use Rattle.ground.specs.Answers.{Decides};
 ghost use Rattle.writing.specs.Limits.{PointWithin, PointsWithin};
-ghost use Rattle.writing.specs.Storing.{position, positions};
+ghost use Rattle.writing.specs.Storing.{positions};
 
 // Whether the first n points are within their fields, and the others zero.
 pub fn within(latitudes: [LatitudeCode; 15], longitudes: [LongitudeCode; 15], n: u8) -> bool
@@ -63,18 +63,7 @@ pub fn put(out: &mut [u8], latitudes: [LatitudeCode; 15], longitudes: [Longitude
     while i < end {
         let latitude = latitudes[i];
         let longitude = longitudes[i];
-        put_position(out, 1 + 6 * i, latitude, longitude);
+        storing::put_position(out, 1 + 6 * i, latitude, longitude);
         i += 1;
     }
-}
-
-// Stores the six octets of a position.
-pub fn put_position(out: &mut [u8], at: usize, latitude: LatitudeCode, longitude: LongitudeCode)
-    requires { ⌜ at + 6 ≤ length (now out) ⌝ }
-    requires { ⌜ latitude .1 < 8388608 ⌝ }
-    ensures { λ _. ⌜ now (out .exit) ≡ sets (now (out .entry)) at (position latitude longitude) ⌝ }
-{
-    storing::put_latitude(out, at, latitude);
-    let turn = storing::complement_of(longitude);
-    storing::put_three(out, at + 3, turn);
 }

@@ -12,8 +12,8 @@ in-fields-requires c κs = tt
 returns : tie.Need-returns
 returns c = unmet (refuted (c .before .in-fields .result) (c .if1 .taken) (c .before .in-fields .ensures)) refl
 
-length-of-requires : tie.Need-length-of-requires
-length-of-requires c κs = tt
+message-length-requires : tie.Need-message-length-requires
+message-length-requires c κs = tt
 
 returns-2 : tie.Need-returns-2
 returns-2 c = met (shown (c .before .before .before .in-fields .result) (c .before .before .if1 .left) (c .before .before .before .in-fields .ensures)) (unmet (λ h. absurd (omega arith)) refl)
@@ -23,4 +23,4 @@ returns-3 c = met (shown (c .before .before .before .in-fields .result) (c .befo
 
 pub fitted-spec : {M : Type 1} → statement M
 fitted-spec =
-    tie.close (tie.spec in-fields-requires returns length-of-requires returns-2 returns-3)
+    tie.close (tie.spec in-fields-requires returns message-length-requires returns-2 returns-3)

@@ -9,7 +9,8 @@ use denote.Ref.{now}
 use borrow.Author.Tests.{lt-ltb}
 use Rattle.layout.specs.Shapes.{zeroLatitude, zeroLongitude}
 use lib.Seq.{sets}
-use Rattle.writing.specs.Storing.{position, positions}
+use Rattle.octets.specs.Codes.{position}
+use Rattle.writing.specs.Storing.{positions}
 use Rattle.writing.proofs.StoreLaws.{more}
 use Rattle.writing.proofs.points.put.Statement.{statement}
 use Rattle.writing.proofs.points.put.Tie as tie

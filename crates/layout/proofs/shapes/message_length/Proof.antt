@@ -1,9 +1,9 @@
 -- Each length is the layout table's.
 use mathlib.Core.Path.{sym}
 use borrow.Author.Needs.{needs}
 use Rattle.layout.proofs.PolygonLaws.{polygon-length}
-use Rattle.writing.proofs.answers.length_of.Statement.{statement}
-use Rattle.writing.proofs.answers.length_of.Tie as tie
+use Rattle.layout.proofs.shapes.message_length.Statement.{statement}
+use Rattle.layout.proofs.shapes.message_length.Tie as tie
 
 enum-told : tie.Need-enum-told
 enum-told c = c .match .keys1
@@ -59,8 +59,8 @@ returns-7 c = rw (c .enum-told7 .given .1)
 returns-8 : tie.Need-returns-8
 returns-8 c = rw (c .enum-told8 .given .1)
 
-pub length-of-spec : {M : Type 1} → statement M
-length-of-spec =
+pub message-length-spec : {M : Type 1} → statement M
+message-length-spec =
     tie.close
     (tie.spec
     enum-told

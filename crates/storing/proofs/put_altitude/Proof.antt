@@ -1,8 +1,8 @@
 -- The sign adds 2^15 to the number, which two octets then hold.
 use borrow.Author.Needs.{needs}
 use native.Mathlib.Nat.{zero-add}
-use Rattle.writing.proofs.messages.put_altitude.Statement.{statement}
-use Rattle.writing.proofs.messages.put_altitude.Tie as tie
+use Rattle.storing.proofs.put_altitude.Statement.{statement}
+use Rattle.storing.proofs.put_altitude.Tie as tie
 
 add-put-word : tie.Need-add-put-word
 add-put-word c = search needs

@@ -5,8 +5,8 @@ use borrow.Author.Needs.{needs}
 use native.Mathlib.Omega.{arith}
 use native.Mathlib.Numerals.{add-one}
 use lib.ListN.{length-set}
-use Rattle.writing.proofs.messages.put_four.Statement.{statement}
-use Rattle.writing.proofs.messages.put_four.Tie as tie
+use Rattle.storing.proofs.put_four.Statement.{statement}
+use Rattle.storing.proofs.put_four.Tie as tie
 
 slice-write-out : tie.Need-slice-write-out
 slice-write-out c = search needs

@@ -1,0 +1,4 @@
+pub mod Ranges
+pub mod Holding
+pub mod Choice
+pub mod Codes
