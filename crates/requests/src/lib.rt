@@ -2,8 +2,8 @@
 // (document 01, "When a message holds a request").
 mod codes;
 
-pub use codes::AltitudeWanted;
 pub use codes::AltitudeUncertaintyWanted;
+pub use codes::AltitudeWanted;
 pub use codes::AreaWanted;
 pub use codes::Wanted;
 use ground::Confidence;

@@ -143,8 +143,7 @@ fn height_codes(height: AltitudeUncertainty) -> HeightCoded
 {
     match height {
         AltitudeUncertainty::Asked(uncertainty) => {
-            let AltitudeUncertaintyCoded::Code(code) =
-                radii::altitude_uncertainty_code(uncertainty)
+            let AltitudeUncertaintyCoded::Code(code) = radii::altitude_uncertainty_code(uncertainty)
             else {
                 return HeightCoded::TooLarge;
             };
