@@ -7,7 +7,6 @@ ghost use Prim.Native.Nat.{_^_};
 ghost use Rattle.ground.specs.Answers.{Decides};
 ghost use Rattle.layout.specs.Layout.{typeOf};
 ghost use Rattle.requests.specs.Choice.{Listed};
-ghost use Rattle.requests.specs.Codes.{Tame};
 ghost use Rattle.choice.specs.Kinds.{FindsKind, FindsListed};
 
 pub enum KindFound {
@@ -17,7 +16,6 @@ pub enum KindFound {
 
 // The kind of the best message on the list, of those that can hold what is wanted.
 pub fn best_kind(wanted: Wanted, list: u16) -> KindFound
-    requires { ⌜ Tame wanted ⌝ }
     ensures { λ r. ⌜ FindsKind wanted (Listed list) r ⌝ }
 {
     if wanted.altitude.asked {
@@ -37,7 +35,6 @@ pub fn best_kind(wanted: Wanted, list: u16) -> KindFound
 
 // With an altitude: one kind at most.
 fn elevated_kind(wanted: Wanted, list: u16) -> KindFound
-    requires { ⌜ Tame wanted ⌝ }
     requires { ⌜ wanted .altitude .asked ≡ true ⌝ }
     ensures { λ r. ⌜ FindsKind wanted (Listed list) r ⌝ }
 {
@@ -58,7 +55,6 @@ fn elevated_kind(wanted: Wanted, list: u16) -> KindFound
 
 // With a horizontal uncertainty alone: a circle, which has no confidence, unless the ellipse is tighter.
 fn area_kind(wanted: Wanted, list: u16) -> KindFound
-    requires { ⌜ Tame wanted ⌝ }
     requires { ⌜ (wanted .altitude .asked ≡ false) × (wanted .«altitude_uncertainty» .asked ≡ false) × (wanted .area .asked ≡ true) ⌝ }
     ensures { λ r. ⌜ FindsKind wanted (Listed list) r ⌝ }
 {

@@ -122,7 +122,7 @@ pub record Fits (w : Wanted) (x : Shape) : Type 0 where
   pub heights : FitsAltitudeUncertainty (w .«altitude_uncertainty») (altitudeUncertaintyHad (rowsOf x) x)
   pub confidences : FitsConfidence (w .confidence) (confidenceHad (rowsOf x) x)
 
--- codes that a request in range has: each is one that its field holds, and the axes are in order
+-- codes of a request: each is one that its field holds
 pub record Tame (w : Wanted) : Type 0 where
   pub latitudes : Held field.latitude (w .latitude)
   pub longitudes : Held field.longitude (w .longitude)
@@ -132,7 +132,6 @@ pub record Tame (w : Wanted) : Type 0 where
   pub orientations : Held field.orientation (w .area .orientation)
   pub heights : Held field.altitudeUncertainty (w .«altitude_uncertainty» .code)
   pub confidences : Held field.confidence (w .confidence)
-  pub order : w .area .«semi_minor» .0 ≤ w .area .«semi_major» .0
 
 -- ---- which kinds can hold it
 

@@ -23,7 +23,7 @@ use Rattle.layout.proofs.KindLaws.{pointsOf, no-point-width, shape-tidy}
 use Rattle.trips.proofs.DemandLaws.{Readable, Sound}
 use Rattle.trips.proofs.WidthLaws.{code-of}
 use Rattle.trips.proofs.ShapeRecords.{Fifteen, length-upto, values-of, shape-of-values}
-use Rattle.trips.proofs.Trips.{Coder, Read, taken, accepted, again, same-but-spare, back}
+use Rattle.trips.proofs.Trips.{Coder, Read, sound-in, message-in, readable-sent, record-sent, taken, accepted, again, same-but-spare, back}
 
 -- ---- the type and the count
 
@@ -152,6 +152,34 @@ shapes = record {
   record-back = λ x fifteen h. record-back x h fifteen;
 }
 
+-- the record in a message that is read: the writer takes it, and it gives the message's own octets with the spare bits zero
+module _ (s : List ℕ) (h : Readable (rowsIn s) s) where
+  pub sound-read : Sound (rowsOf (shapeIn s)) (valueOf (shapeIn s))
+  unfolding shapes
+  sound-read = sound-in shapes s h
+
+  pub message-read : message (rowsOf (shapeIn s)) (valueOf (shapeIn s)) ≡ spareZero (rowsIn s) s
+  unfolding shapes
+  message-read = message-in shapes s h
+
+  pub rows-read : rowsOf (shapeIn s) ≡ rowsIn s
+  rows-read = own-rows (kindIn s) s
+
+pub fifteen-read : (s : List ℕ) → Fifteen (shapeIn s)
+fifteen-read s =
+    let v = read s (rowsIn s) in
+    record { all-latitudes = length-upto (λ i. latitudeOf v (suc i)) 15; all-longitudes = length-upto (λ i. longitudeOf v (suc i)) 15 }
+
+-- the message of a record that the writer takes is read, as that record
+module _ (x : Shape) (h : Sound (rowsOf x) (valueOf x)) where
+  pub readable-message : Readable (rowsIn (message (rowsOf x) (valueOf x))) (message (rowsOf x) (valueOf x))
+  unfolding shapes
+  readable-message = readable-sent shapes x h
+
+  pub record-message : Fifteen x → shapeIn (message (rowsOf x) (valueOf x)) ≡ x
+  unfolding shapes
+  record-message = record-sent shapes x h
+
 as-read : (s : List ℕ) (r : ShapeRead) → ReadsShape s r → Read shapes s (r .outcome) (r .shape)
 unfolding shapes
 as-read s r h = record { answer = h .answer; handed-back = h .shape }
@@ -179,11 +207,7 @@ module _ (s : List ℕ) (r : ShapeRead) (h : ReadsShape s r) (done : r .outcome 
   pub shape-whole : Fifteen (r .shape)
   shape-whole =
       let e : r .shape ≡ shapeIn s = h .shape ∙ ap (λ (o : Outcome). handed o (shapeIn s) (blankShape Nothing)) done in
-      let v = read s (rowsIn s) in
-      record {
-        all-latitudes = ap (λ (x : Shape). length (x .latitudes)) e ∙ length-upto (λ i. latitudeOf v (suc i)) 15;
-        all-longitudes = ap (λ (x : Shape). length (x .longitudes)) e ∙ length-upto (λ i. longitudeOf v (suc i)) 15;
-      }
+      subst Fifteen (sym e) (fifteen-read s)
 
   -- two messages with the same record are the same but for spare bits
   pub shape-same-but-spare : (t : List ℕ) (q : ShapeRead) → ReadsShape t q → q .outcome ≡ Done → q .shape ≡ r .shape → spareZero (rowsIn s) s ≡ spareZero (rowsIn t) t

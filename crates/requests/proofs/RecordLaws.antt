@@ -1,0 +1,199 @@
+-- The record of a kind with the wanted codes is one that the writer takes. Assumes nothing.
+use Prim.Native.Nat.{ℕ, zero, suc, _^_, _≤_, _<_}
+use mathlib.Core.Path.{_≡_, refl, sym, ap, _∙_, subst}
+use mathlib.Core.Bool.{Bool, true, false, cond, _&&_}
+use mathlib.Core.List.{List, [], _∷_}
+use native.Mathlib.Omega.{arith}
+use lib.Dec.{eqb}
+use lib.IntN.{ℤ, pos, negsuc}
+use lib.Signed.{mag}
+use lib.ListN.{length}
+use borrow.Author.Tests.{eqb-true, eqb-false, lt-ltb}
+use Rattle.ground.specs.declared.codes.AltitudeCode.{AltitudeCode}
+use Rattle.ground.specs.declared.codes.LatitudeCode.{LatitudeCode}
+use Rattle.ground.specs.declared.codes.LongitudeCode.{LongitudeCode}
+use Rattle.octets.specs.Codes.{bitOf, signOf, complement, fromComplement}
+use Rattle.octets.proofs.ComplementLaws.{complement-back}
+use Rattle.layout.specs.declared.shapes.Kind.{Kind}
+use Rattle.layout.specs.declared.shapes.Kind.the-variants.{AltitudePoint, AltitudeEllipsoid}
+use Rattle.layout.specs.declared.shapes.Shape.{Shape}
+use Rattle.layout.specs.Layout.{
+  Field,
+  typeNumber,
+  count,
+  south,
+  latitude,
+  longitude,
+  depth,
+  altitude,
+  uncertainty,
+  semiMajor,
+  semiMinor,
+  orientation,
+  altitudeUncertainty,
+  confidence,
+  innerRadius,
+  offset,
+  included,
+  bearing,
+  horizontalSpeed,
+  down,
+  verticalSpeed,
+  speedUncertainty,
+  verticalUncertainty,
+  Row,
+  shapeRows,
+  typeOf,
+}
+use Rattle.layout.specs.Rows.{tag, widthOf, lengthOf}
+use Rattle.layout.specs.Demands.{Listed, CountSound, AnglesSound, ConfidenceSound, InFields}
+use Rattle.layout.specs.Shapes.{rowsOf, valueOf, latitudeOf, longitudeOf}
+use Rattle.layout.proofs.FieldLaws.{tag-one}
+use Rattle.layout.proofs.KindLaws.{type-small}
+use Rattle.layout.proofs.TidyLaws.{both}
+use Rattle.trips.proofs.DemandLaws.{Sound}
+use Rattle.trips.proofs.ShapeRecords.{sign-back, length-upto, values-of, Fifteen}
+use Rattle.trips.proofs.WidthLaws.{shapeWidest}
+use Rattle.requests.specs.declared.codes.Wanted.{Wanted}
+use Rattle.requests.specs.Choice.{TakesPart}
+use Rattle.requests.specs.Codes.{Tame, numberOf, rowNumber, recordOf}
+use Rattle.requests.proofs.KindLaws.{by-kind, part-rows}
+
+-- ---- a kind that takes part has for each field no row, or one of all the bits that the field has in any shape
+
+abbrev full : List Row → Bool
+full [] = true
+full (r ∷ rs) = eqb (r .width) (shapeWidest (r .field)) && full rs
+
+full-by : (b : Bool) (f g : Field) (w v : ℕ) → (b ≡ true → f ≡ g) → w ≡ shapeWidest g → ((v ≡ 0 → ⊥) → v ≡ shapeWidest f) → (cond b w v ≡ 0 → ⊥) → cond b w v ≡ shapeWidest f
+full-by true f g w v same e rest some = e ∙ ap shapeWidest (sym (same refl))
+full-by false f g w v same e rest some = rest some
+
+full-width : (rs : List Row) → full rs ≡ true → (f : Field) → (widthOf rs f ≡ 0 → ⊥) → widthOf rs f ≡ shapeWidest f
+full-width [] h f some = absurd (some refl)
+full-width (r ∷ rs) h f some =
+    let b = both _ _ h in
+    full-by (eqb (tag f) (tag (r .field))) f (r .field) _ _ (λ e. tag-one f (r .field) (eqb-true _ _ e)) (eqb-true _ _ (b .0)) (full-width rs (b .1) f) some
+
+part-full : (k : Kind) → TakesPart k → full (shapeRows k 0) ≡ true
+part-full = by-kind (λ k. full (shapeRows k 0) ≡ true) refl refl refl refl refl
+
+part-listed : (k : Kind) → TakesPart k → Listed (shapeRows k 0)
+part-listed = by-kind (λ k. Listed (shapeRows k 0)) (omega arith) (omega arith) (omega arith) (omega arith) (omega arith)
+
+part-uncounted : (k : Kind) → TakesPart k → widthOf (shapeRows k 0) count ≡ 0
+part-uncounted = by-kind (λ k. widthOf (shapeRows k 0) count ≡ 0) refl refl refl refl refl
+
+-- ---- each number has the bits of its field
+
+sign-small : (b : Bool) → bitOf b < 2
+sign-small true = omega arith
+sign-small false = omega arith
+
+turn-small : (z : ℤ) → mag z < 8388608 → complement z < 16777216
+turn-small (pos n) h = rw (lt-ltb n 8388608 h) (omega arith)
+turn-small (negsuc n) h = rw (lt-ltb n 8388608 h) (omega arith)
+
+no-row : (b : Bool) → _≡_ {A = ℕ} (cond b 0 0) 0
+no-row true = refl
+no-row false = refl
+
+at-most : (b : Bool) (n most : ℕ) → n < most → cond b 0 n < most
+at-most true n most h = omega arith
+at-most false n most h = h
+
+module _ (k : Kind) (w : Wanted) (part : TakesPart k) (t : Tame w) where
+  number-small : (f : Field) → numberOf k w f < 2 ^ shapeWidest f
+  number-small typeNumber = type-small k
+  number-small (south zero) = sign-small (w .latitude .0)
+  number-small (south (suc i)) = omega arith
+  number-small (latitude zero) = t .latitudes
+  number-small (latitude (suc i)) = omega arith
+  number-small (longitude zero) = turn-small (w .longitude .0) (t .longitudes)
+  number-small (longitude (suc i)) = omega arith
+  number-small depth = sign-small (w .altitude .code .0)
+  number-small altitude = t .altitudes
+  number-small uncertainty = t .majors
+  number-small semiMajor = t .majors
+  number-small semiMinor = t .minors
+  number-small orientation = omega (arith, t .orientations)
+  number-small altitudeUncertainty = t .heights
+  number-small confidence = omega (arith, t .confidences)
+  number-small count = omega arith
+  number-small innerRadius = omega arith
+  number-small offset = omega arith
+  number-small included = omega arith
+  number-small bearing = omega arith
+  number-small horizontalSpeed = omega arith
+  number-small down = omega arith
+  number-small verticalSpeed = omega arith
+  number-small speedUncertainty = omega arith
+  number-small verticalUncertainty = omega arith
+
+  -- the kind has no row for it
+  abbrev none : Field → Bool
+  none f = eqb (widthOf (shapeRows k 0) f) 0
+
+  row-below : (f : Field) (most : ℕ) → numberOf k w f < most → rowNumber k w f < most
+  row-below f most = at-most (none f) (numberOf k w f) most
+
+  in-row : (f : Field) (b : Bool) → none f ≡ b → cond b 0 (numberOf k w f) < 2 ^ widthOf (shapeRows k 0) f
+  in-row f true e = rw (eqb-true (widthOf (shapeRows k 0) f) 0 e) (omega arith)
+  in-row f false e = rw (full-width (shapeRows k 0) (part-full k part) f (eqb-false (widthOf (shapeRows k 0) f) 0 e)) (number-small f)
+
+  own-type : typeOf k ≡ rowNumber k w typeNumber
+  own-type = by-kind (λ j. typeOf j ≡ rowNumber j w typeNumber) refl refl refl refl refl k part
+
+  -- ---- the record's numbers are these
+
+  pub record-values : (f : Field) → valueOf (recordOf k w) f ≡ rowNumber k w f
+  record-values = values-of k (rowNumber k w) own-type (λ f. row-below f _ (number-small f)) (λ i h. (no-row (none (south (suc i))), no-row (none (latitude (suc i))), no-row (none (longitude (suc i)))))
+
+  pub record-rows : rowsOf (recordOf k w) ≡ shapeRows k 0
+  record-rows = part-rows k part (rowNumber k w count)
+
+  sound-rows : Sound (shapeRows k 0) (rowNumber k w)
+  sound-rows = record {
+    listed = part-listed k part;
+    counted = record { least = λ u. absurd (omega (arith, part-uncounted k part)); most = λ u. absurd (omega (arith, part-uncounted k part)) };
+    angles = record {
+      orientations = λ u. row-below orientation 180 (t .orientations);
+      offsets = λ u. row-below offset 180 (omega arith);
+      includeds = λ u. row-below included 180 (omega arith);
+      bearings = λ u. row-below bearing 360 (omega arith);
+    };
+    sure = record { confidences = λ u. row-below confidence 101 (t .confidences) };
+    fields = record { each = λ f. in-row f _ refl };
+  }
+
+  pub record-sound : Sound (rowsOf (recordOf k w)) (valueOf (recordOf k w))
+  record-sound =
+      subst (λ (rows : List Row). Sound rows (valueOf (recordOf k w))) (sym record-rows)
+      (subst (λ (v : Field → ℕ). Sound (shapeRows k 0) v) (λ i f. sym (record-values f) i) sound-rows)
+
+  pub record-whole : Fifteen (recordOf k w)
+  record-whole = record { all-latitudes = length-upto (λ i. latitudeOf (rowNumber k w) (suc i)) 15; all-longitudes = length-upto (λ i. longitudeOf (rowNumber k w) (suc i)) 15 }
+
+  -- ---- its codes are the wanted ones
+
+  same-latitude : _≡_ {A = LatitudeCode} (record { 0 = signOf (bitOf (w .latitude .0)); 1 = w .latitude .1 }) (w .latitude)
+  same-latitude = λ j. record { 0 = sign-back (w .latitude .0) j; 1 = w .latitude .1 }
+
+  pub record-latitude : recordOf k w .latitude ≡ w .latitude
+  record-latitude = by-kind (λ j. recordOf j w .latitude ≡ w .latitude) same-latitude same-latitude same-latitude same-latitude same-latitude k part
+
+  same-longitude : _≡_ {A = LongitudeCode} (record { 0 = fromComplement (complement (w .longitude .0)) }) (w .longitude)
+  same-longitude = λ j. record { 0 = complement-back (w .longitude .0) (turn-small (w .longitude .0) (t .longitudes)) j }
+
+  pub record-longitude : recordOf k w .longitude ≡ w .longitude
+  record-longitude = by-kind (λ j. recordOf j w .longitude ≡ w .longitude) same-longitude same-longitude same-longitude same-longitude same-longitude k part
+
+module _ (w : Wanted) where
+  same-altitude : _≡_ {A = AltitudeCode} (record { 0 = signOf (bitOf (w .altitude .code .0)); 1 = w .altitude .code .1 }) (w .altitude .code)
+  same-altitude = λ j. record { 0 = sign-back (w .altitude .code .0) j; 1 = w .altitude .code .1 }
+
+  pub point-altitude : recordOf AltitudePoint w .altitude ≡ w .altitude .code
+  point-altitude = same-altitude
+
+  pub ellipsoid-altitude : recordOf AltitudeEllipsoid w .altitude ≡ w .altitude .code
+  ellipsoid-altitude = same-altitude
