@@ -1,2 +1,3 @@
 pub mod ListedLaws
+pub mod StoredLaws
 pub mod WritingLaws

@@ -17,7 +17,7 @@ use Rattle.layout.specs.declared.velocities.VelocityKind.the-variants as veloci
 use Rattle.layout.specs.declared.velocities.Velocity.{Velocity}
 use Rattle.layout.specs.Layout.{Field, Row, shapeRows, velocityRows}
 use Rattle.layout.specs.Layout as layout
-use Rattle.layout.specs.Rows.{tag}
+use Rattle.layout.specs.Rows.{tag, widthOf}
 use Rattle.layout.specs.Demands.{Used, InFields}
 use Rattle.layout.specs.Shapes.{rowsOf, valueOf}
 use Rattle.layout.specs.Velocities.{velocityValueOf}
@@ -49,6 +49,14 @@ use Rattle.quantities.specs.Places.{
 }
 use Rattle.quantities.specs.Shapes.{codeAt}
 use Rattle.quantities.specs.Velocities.{velocityCodeAt}
+
+-- a field is used, or it isn't
+pub by-use : (rows : List Row) (f : Field) (P : Type 0) → (Used rows f → P) → (Unused rows f → P) → P
+by-use rows f P used unused = by (ltb 0 (widthOf rows f)) refl
+  where
+    by : (b : Bool) → ltb 0 (widthOf rows f) ≡ b → P
+    by true e = used (ltb-true 0 (widthOf rows f) e)
+    by false e = let l : widthOf rows f ≤ 0 = ltb-false 0 (widthOf rows f) e in unused (omega arith)
 
 -- ---- a polygon's points: the first n are used
 

@@ -24,7 +24,7 @@ use Rattle.requests.proofs.KindLaws.{by-kind, part-rows, fits-able, non
 use Rattle.requests.proofs.RecordLaws.{record-sound, record-whole, record-rows, record-latitude, record-longitude, point-altitude, ellipsoid-altitude}
 
 -- a message's length is that of its kind
-length-of : (s : List ℕ) → Readable (rowsIn s) s → TakesPart (shapeIn s .kind) → length s ≡ lengthOf (shapeRows (shapeIn s .kind) 0)
+pub length-of : (s : List ℕ) → Readable (rowsIn s) s → TakesPart (shapeIn s .kind) → length s ≡ lengthOf (shapeRows (shapeIn s .kind) 0)
 length-of s r part = r .long ∙ ap lengthOf (sym (rows-read s r) ∙ part-rows (shapeIn s .kind) part (shapeIn s .count))
 
 module _ (w : Wanted) (t : Tame w) where

@@ -64,7 +64,7 @@ fits-altitude (level.Asked a) w hasNot p f = differ (sym (p .0) ∙ f)
 fits-altitude level.NotAsked w (has c) p f = differ (sym (f .0) ∙ p .0)
 fits-altitude level.NotAsked w hasNot p f = tt
 
-same-turn : (N M : OrientationCode) → N .0 ≡ 0 → M .0 ≡ 0 → N ≡ M
+pub same-turn : (N M : OrientationCode) → N .0 ≡ 0 → M .0 ≡ 0 → N ≡ M
 same-turn N M e d = ap (λ (n : ℕ). record { 0 = n }) (e ∙ sym d)
 
 area-fits : (h : Horizontal) (w : AreaWanted) (v : Area) → AreaCodes h w → HoldsArea h v → FitsArea w v

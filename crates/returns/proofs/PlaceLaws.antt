@@ -2,11 +2,8 @@
 -- and codes that are reported and coded again are those codes. Assumes nothing.
 use Prim.Native.Nat.{ℕ, _≤_}
 use mathlib.Core.Path.{_≡_, refl, sym, _∙_}
-use mathlib.Core.Bool.{Bool, true, false}
 use mathlib.Core.List.{List}
 use native.Mathlib.Omega.{arith}
-use lib.Dec.{ltb}
-use borrow.Author.Tests.{ltb-true, ltb-false}
 use Rattle.ground.specs.Answers.{done, refused, met}
 use Rattle.ground.proofs.AnswerLaws.{unless-one, said-one, done-not-refused}
 use Rattle.radii.proofs.CoverLaws.{covers-up}
@@ -15,18 +12,10 @@ use Rattle.fields.proofs.OneAnswer.{coding-one, reporting-one}
 use Rattle.fields.proofs.Kept.{kept}
 use Rattle.layout.specs.Layout.{Row}
 use Rattle.layout.specs.Layout as layout
-use Rattle.layout.specs.Rows.{widthOf}
 use Rattle.layout.specs.Demands.{Listed, Used, CountSound}
 use Rattle.quantities.specs.Places.{Place, semiMajor, semiMinor, fieldOf, rowOf, Codes, Quantities, Unused, zeroCode}
+use Rattle.quantities.proofs.UnusedLaws.{by-use}
 use Rattle.quantities.specs.Promises.{EachReported, EachCoded, CodeAnswer}
-
--- a field is used, or it isn't
-by-use : (rows : List Row) (f : layout.Field) (P : Type 0) → (Used rows f → P) → (Unused rows f → P) → P
-by-use rows f P used unused = by (ltb 0 (widthOf rows f)) refl
-  where
-    by : (b : Bool) → ltb 0 (widthOf rows f) ≡ b → P
-    by true e = used (ltb-true 0 (widthOf rows f) e)
-    by false e = let l : widthOf rows f ≤ 0 = ltb-false 0 (widthOf rows f) e in unused (omega arith)
 
 module _ (rows : List Row) where
   -- ---- one answer

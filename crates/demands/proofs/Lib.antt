@@ -1,0 +1,4 @@
+pub mod OneMessage
+pub mod OneAnswer
+pub mod OneCoding
+pub mod Demand
