@@ -58,7 +58,7 @@ fn area_kind(wanted: Wanted, list: u16) -> KindFound
     requires { ⌜ (wanted .altitude .asked ≡ false) × (wanted .«altitude_uncertainty» .asked ≡ false) × (wanted .area .asked ≡ true) ⌝ }
     ensures { λ r. ⌜ FindsKind wanted (Listed list) r ⌝ }
 {
-    if wanted.confidence.0 != 0 {
+    if 0 < wanted.confidence.0 {
         return if_listed(Kind::Ellipse, list);
     }
     if !listed(Kind::Circle, list) {

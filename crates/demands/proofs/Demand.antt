@@ -13,7 +13,6 @@ use Rattle.demands.specs.Demand.{Exactly, SomeBest, StandsIn, Demand3}
 use Rattle.demands.proofs.OneMessage.{best-one}
 use Rattle.demands.proofs.OneAnswer.{refuses-not}
 
-
 module _ (q : Request) (taken : Kind → Type 0) (before : List ℕ) where
   pub demand-3 : {n long : ℕ} {after : List ℕ} → Chosen q taken before n long after → Demand3 q taken before n long after
   demand-3 (refuses (out-of-range f)) = record {

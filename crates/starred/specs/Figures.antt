@@ -1,21 +1,31 @@
 -- The starred bench figures, in the definitions that the functions' contracts cite. Assumes nothing.
 use mathlib.Core.Bool.{true, false}
-use mathlib.Core.List.{List, [], _∷_}
-use Prim.Native.Nat.{ℕ}
+use mathlib.Core.List.{List, [], _∷_, _++_}
+use Prim.Native.Nat.{ℕ, _≤_}
+use lib.ListN.{length, drop}
 use lib.IntN.{ℤ, pos, negsuc}
 use Rattle.ground.specs.Answers.{done}
 use Rattle.ground.specs.declared.quantities.Nanodegrees.{Nanodegrees}
 use Rattle.ground.specs.declared.codes.LatitudeCode.{LatitudeCode}
+use Rattle.ground.specs.declared.quantities.Confidence.the-variants.{Missing}
+use Rattle.requests.specs.declared.Request.{Request}
+use Rattle.requests.specs.declared.Altitude.the-variants as level
+use Rattle.requests.specs.declared.Horizontal.the-variants.{Ellipse}
+use Rattle.requests.specs.declared.AltitudeUncertainty.the-variants as aloft
+use Rattle.requests.specs.Choice.{Listed, Chosen}
 use Rattle.fields.specs.Fields.{Field, latitude, longitude, uncertainty, altitudeUncertainty, offset, included, horizontalSpeed, verticalSpeed, CodeOf, QuantityOf, Coding, Reporting}
 
--- a quantity and the code that it has, or a code and the quantity that it reports
+-- a quantity and the code that it has, a code and the quantity that it reports, or a request, a list and the message that is
+-- chosen, where there is room for it
 pub data Figure : Type 0 where
   codes : (f : Field) → QuantityOf f → CodeOf f → Figure
   reports : (f : Field) → CodeOf f → QuantityOf f → Figure
+  chooses : Request → ℕ → List ℕ → Figure
 
 abbrev pub Holds : Figure → Type 0
 Holds (codes f x c) = Coding f x (done c)
 Holds (reports f c x) = Reporting f c (done x)
+Holds (chooses q list s) = (before : List ℕ) → length s ≤ length before → Chosen q (Listed list) before 0 (length s) (s ++ drop (length s) before)
 
 abbrev pub Each : List Figure → Type 0
 Each [] = Unit
@@ -87,6 +97,24 @@ speeds =
     ∷ codes verticalSpeed (record { 0 = pos 500 }) (record { 0 = false; 1 = 1 })
     ∷ []
 
+-- 45 north, 90 west, an ellipse of 57274 by that semi-minor at 30 degrees
+abbrev pub asking : ℕ → Request
+asking S = record {
+  latitude = degrees (pos 45000000000);
+  longitude = degrees (negsuc 89999999999);
+  altitude = level.NotAsked;
+  horizontal = Ellipse (record { 0 = 57274 }) (record { 0 = S }) (record { 0 = 30000 });
+  «altitude_uncertainty» = aloft.NotAsked;
+  confidence = Missing;
+}
+
+-- the list {1, 3} is 2 + 8
+abbrev choices : List Figure
+choices =
+    chooses (asking 51160) 10 (0x10 ∷ 0x40 ∷ 0x00 ∷ 0x00 ∷ 0xC0 ∷ 0x00 ∷ 0x00 ∷ 0x14 ∷ [])
+    ∷ chooses (asking 51159) 10 (0x30 ∷ 0x40 ∷ 0x00 ∷ 0x00 ∷ 0xC0 ∷ 0x00 ∷ 0x00 ∷ 0x14 ∷ 0x13 ∷ 0x1E ∷ 0x00 ∷ [])
+    ∷ []
+
 -- the one claim
 abbrev pub Figures : Type 0
-Figures = Each latitudes × Each longitudes × Each radii × Each heights × Each angles × Each speeds
+Figures = Each latitudes × Each longitudes × Each radii × Each heights × Each angles × Each speeds × Each choices
