@@ -41,7 +41,7 @@ use Rattle.records.specs.Ranges.{RangesKept, RangedCodes, IncludedCodes}
 use Rattle.records.specs.Records.{RefusedShape, shapeJoined}
 use Rattle.records.specs.Sizes.{SizesCovered, SizeCodes}
 use Rattle.records.specs.Unused.{RestZero}
-use Rattle.records.proofs.ZeroLaws.{not-refused, zero-has-code, kept}
+use Rattle.quantities.proofs.ZeroLaws.{not-refused, zero-has-code, kept}
 use Rattle.records.proofs.UseLaws.{grouped, idle, idle-back, active, active-back, count-idle, count-idle-back, latitude-used, longitude-used, latitude-unused, longitude-unused, latitude-counted, longitude-counted, latitude-past, longitude-past}
 
 module _ (q : ShapeQuantities) where

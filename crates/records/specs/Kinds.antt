@@ -4,14 +4,12 @@ use Prim.Native.Nat.{ℕ}
 use lib.Dec.{ltb}
 use Rattle.ground.specs.Answers.{Unless, Else0}
 use Rattle.layout.specs.declared.shapes.Kind.{Kind}
-use Rattle.layout.specs.declared.velocities.VelocityKind.{VelocityKind}
-use Rattle.layout.specs.Layout.{Field, latitude, altitude, uncertainty, semiMajor, altitudeUncertainty, confidence, innerRadius, count, verticalSpeed, speedUncertainty, verticalUncertainty, shapeRows, velocityRows}
+use Rattle.layout.specs.Layout.{Field, latitude, altitude, uncertainty, semiMajor, altitudeUncertainty, confidence, innerRadius, count, shapeRows}
 use Rattle.layout.specs.Rows.{widthOf}
 use Rattle.layout.specs.Demands.{Listed, CountSound}
 use Rattle.quantities.specs.declared.shapes.ShapeQuantities.{ShapeQuantities}
 use Rattle.quantities.specs.Shapes.{quantityRows}
 use Rattle.records.specs.declared.kinds.Uses.{Uses}
-use Rattle.records.specs.declared.kinds.MotionUses.{MotionUses}
 
 -- 2 and 4
 abbrev pub FormAnswer : Kind → ℕ → ℕ → Type 0
@@ -46,14 +44,4 @@ usesGiven a b c d e f g h = record {
   confidence = f;
   arc = g;
   count = h;
-}
-
-abbrev pub motionUses : VelocityKind → Field → Bool
-motionUses k f = ltb 0 (widthOf (velocityRows k) f)
-
-abbrev pub motionUsesOf : VelocityKind → MotionUses
-motionUsesOf k = record {
-  «vertical_speed» = motionUses k verticalSpeed;
-  uncertainty = motionUses k speedUncertainty;
-  «vertical_uncertainty» = motionUses k verticalUncertainty;
 }

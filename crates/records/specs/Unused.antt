@@ -4,15 +4,11 @@ use mathlib.Core.Bool.{Bool, false}
 use Prim.Native.Nat.{ℕ}
 use Rattle.ground.specs.declared.quantities.Nanodegrees.{Nanodegrees}
 use Rattle.ground.specs.declared.quantities.SignedMillimetres.{SignedMillimetres}
-use Rattle.ground.specs.declared.quantities.SignedMetresPerHour.{SignedMetresPerHour}
-use Rattle.ground.specs.declared.quantities.UncertaintySpeed.{UncertaintySpeed}
 use Rattle.ground.specs.declared.quantities.Confidence.{Confidence}
 use Rattle.fields.specs.Fields as field
 use Rattle.quantities.specs.Places.{zeroQuantity}
 use Rattle.quantities.specs.declared.shapes.ShapeQuantities.{ShapeQuantities}
-use Rattle.quantities.specs.declared.velocities.VelocityQuantities.{VelocityQuantities}
 use Rattle.records.specs.declared.kinds.Uses.{Uses}
-use Rattle.records.specs.Kinds.{motionUsesOf}
 
 abbrev pub IdleNumber : Bool → ℕ → Type 0
 IdleNumber used n = used ≡ false → n ≡ 0
@@ -25,12 +21,6 @@ IdleAltitude used x = used ≡ false → x ≡ zeroQuantity field.altitude
 
 abbrev pub IdleConfidence : Bool → Confidence → Type 0
 IdleConfidence used x = used ≡ false → x ≡ zeroQuantity field.confidence
-
-abbrev pub IdleVertical : Bool → SignedMetresPerHour → Type 0
-IdleVertical used x = used ≡ false → x ≡ zeroQuantity field.verticalSpeed
-
-abbrev pub IdleSpeed : Bool → UncertaintySpeed → Type 0
-IdleSpeed used x = used ≡ false → x ≡ zeroQuantity field.uncertaintySpeed
 
 -- the quantities that are natural numbers
 pub record NumbersZero (u : Uses) (q : ShapeQuantities) : Type 0 where
@@ -51,9 +41,3 @@ pub record RestZero (u : Uses) (q : ShapeQuantities) : Type 0 where
   pub confidences : IdleConfidence (u .confidence) (q .confidence)
   pub counts : IdleNumber (u .count) (q .count)
   pub numbers : NumbersZero u q
-
--- of a velocity
-pub record MotionRestZero (q : VelocityQuantities) : Type 0 where
-  pub vertical-speeds : IdleVertical (motionUsesOf (q .kind) .«vertical_speed») (q .«vertical_speed»)
-  pub uncertainties : IdleSpeed (motionUsesOf (q .kind) .uncertainty) (q .uncertainty)
-  pub vertical-uncertainties : IdleSpeed (motionUsesOf (q .kind) .«vertical_uncertainty») (q .«vertical_uncertainty»)

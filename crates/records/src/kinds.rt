@@ -2,10 +2,9 @@
 use ground::Outcome;
 use ground::Refusal;
 use layout::Kind;
-use layout::VelocityKind;
 ghost use mathlib.Core.Path.{_≡_};
 ghost use Rattle.ground.specs.Answers.{outcomeNumber};
-ghost use Rattle.records.specs.Kinds.{FormAnswer, usesOf, usesGiven, motionUsesOf};
+ghost use Rattle.records.specs.Kinds.{FormAnswer, usesOf, usesGiven};
 
 // Whether a kind uses the places of a group.
 pub struct Uses {
@@ -19,13 +18,6 @@ pub struct Uses {
     // inner radius, offset and included
     pub arc: bool,
     pub count: bool,
-}
-
-// The same of a velocity's kind, for what not every velocity has.
-pub struct MotionUses {
-    pub vertical_speed: bool,
-    pub uncertainty: bool,
-    pub vertical_uncertainty: bool,
 }
 
 // 2 and 4.
@@ -89,37 +81,5 @@ fn used(
         confidence,
         arc,
         count,
-    }
-}
-
-pub fn motion_uses(kind: VelocityKind) -> MotionUses
-    ensures { λ r. ⌜ r ≡ motionUsesOf kind ⌝ }
-{
-    match kind {
-        VelocityKind::Nothing => MotionUses {
-            vertical_speed: false,
-            uncertainty: false,
-            vertical_uncertainty: false,
-        },
-        VelocityKind::Horizontal => MotionUses {
-            vertical_speed: false,
-            uncertainty: false,
-            vertical_uncertainty: false,
-        },
-        VelocityKind::HorizontalVertical => MotionUses {
-            vertical_speed: true,
-            uncertainty: false,
-            vertical_uncertainty: false,
-        },
-        VelocityKind::HorizontalUncertain => MotionUses {
-            vertical_speed: false,
-            uncertainty: true,
-            vertical_uncertainty: false,
-        },
-        VelocityKind::HorizontalVerticalUncertain => MotionUses {
-            vertical_speed: true,
-            uncertainty: true,
-            vertical_uncertainty: true,
-        },
     }
 }

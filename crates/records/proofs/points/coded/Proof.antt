@@ -5,7 +5,7 @@ use mathlib.Core.Bool.{true}
 use native.Mathlib.Omega.{arith}
 use borrow.Author.Needs.{needs}
 use lib.ListN.{length, length-set}
-use Rattle.records.proofs.TestLaws.{never}
+use Rattle.quantities.proofs.TestLaws.{never}
 use Rattle.records.proofs.PointLaws.{CodesAt, one-more, all-points}
 use Rattle.records.proofs.points.coded.Statement.{statement}
 use Rattle.records.proofs.points.coded.Tie as tie

@@ -4,7 +4,7 @@ use borrow.Author.Needs.{needs}
 use mir.Syntax.{w64}
 use mir.Val.{ofZ}
 use Rattle.ground.specs.declared.quantities.Nanodegrees.{Nanodegrees}
-use Rattle.records.proofs.TestLaws.{never, degrees-zero}
+use Rattle.quantities.proofs.TestLaws.{never, degrees-zero}
 use Rattle.records.proofs.points.point.Statement.{statement}
 use Rattle.records.proofs.points.point.Tie as tie
 

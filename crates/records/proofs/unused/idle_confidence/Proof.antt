@@ -1,6 +1,7 @@
 -- What is used may be any confidence; one that isn't is missing.
 use borrow.Author.Needs.{needs}
-use Rattle.records.proofs.TestLaws.{never, no-confidence}
+use Rattle.quantities.proofs.TestLaws.{never}
+use Rattle.records.proofs.TestLaws.{no-confidence}
 use Rattle.records.proofs.unused.idle_confidence.Statement.{statement}
 use Rattle.records.proofs.unused.idle_confidence.Tie as tie
 

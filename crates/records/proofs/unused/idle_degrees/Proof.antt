@@ -1,6 +1,7 @@
 -- What is used may be any quantity; the test is made of one that isn't.
 use borrow.Author.Needs.{needs}
-use Rattle.records.proofs.TestLaws.{never, idle-degrees}
+use Rattle.quantities.proofs.TestLaws.{never}
+use Rattle.records.proofs.TestLaws.{idle-degrees}
 use Rattle.records.proofs.unused.idle_degrees.Statement.{statement}
 use Rattle.records.proofs.unused.idle_degrees.Tie as tie
 

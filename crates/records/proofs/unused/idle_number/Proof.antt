@@ -1,5 +1,6 @@
 -- What is used may be any number; the test is made of one that isn't.
-use Rattle.records.proofs.TestLaws.{never, idle-number}
+use Rattle.quantities.proofs.TestLaws.{never}
+use Rattle.records.proofs.TestLaws.{idle-number}
 use Rattle.records.proofs.unused.idle_number.Statement.{statement}
 use Rattle.records.proofs.unused.idle_number.Tie as tie
 

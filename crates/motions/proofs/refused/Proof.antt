@@ -1,8 +1,8 @@
 -- The record of a refusal is the blank one.
 use mathlib.Core.Path.{refl}
 use borrow.Author.Needs.{needs}
-use Rattle.records.proofs.motions.refused.Statement.{statement}
-use Rattle.records.proofs.motions.refused.Tie as tie
+use Rattle.motions.proofs.refused.Statement.{statement}
+use Rattle.motions.proofs.refused.Tie as tie
 
 blank-velocity-requires : tie.Need-blank-velocity-requires
 blank-velocity-requires c κs = search needs

@@ -32,10 +32,10 @@ use Rattle.quantities.specs.Places.{Place, fieldOf, rowOf, Quantities, Unused, 
 use Rattle.quantities.specs.Places as place
 use Rattle.quantities.specs.Promises.{InRange, Covered, CodeAnswer, Given}
 use Rattle.quantities.specs.Velocities.{velocityCodeAt, velocityQuantityAt, VelocityRecordOf, CodesVelocity}
-use Rattle.records.specs.Records.{RefusedVelocity}
-use Rattle.records.specs.Unused.{MotionRestZero}
-use Rattle.records.proofs.ZeroLaws.{not-refused, zero-has-code, kept}
-use Rattle.records.proofs.UseLaws.{no-bits, no-bits-back}
+use Rattle.motions.specs.Records.{RefusedVelocity}
+use Rattle.motions.specs.Unused.{MotionRestZero}
+use Rattle.quantities.proofs.ZeroLaws.{not-refused, zero-has-code, kept}
+use Rattle.quantities.proofs.TestLaws.{no-bits, no-bits-back}
 
 pub listed-kind : (k : VelocityKind) → OneOf (1 ∷ 2 ∷ 3 ∷ 4 ∷ []) (tagOf the-type k) → Listed (velocityRows k)
 listed-kind Nothing h = ⊎-elim (λ e. absurd (omega arith)) (⊎-elim (λ e. absurd (omega arith)) (⊎-elim (λ e. absurd (omega arith)) (λ e. absurd (omega arith)))) h

@@ -1,8 +1,8 @@
 -- Each test is one of the demands, of what the layout table gives the kind.
 use Rattle.ground.proofs.AnswerLaws.{shown, refuted, decided}
 use borrow.Author.Needs.{needs}
-use Rattle.records.proofs.motions.is_zero.Statement.{statement}
-use Rattle.records.proofs.motions.is_zero.Tie as tie
+use Rattle.motions.proofs.unused.is_zero.Statement.{statement}
+use Rattle.motions.proofs.unused.is_zero.Tie as tie
 
 motion-uses-requires : tie.Need-motion-uses-requires
 motion-uses-requires c κs = search needs

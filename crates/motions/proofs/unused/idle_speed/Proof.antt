@@ -1,8 +1,9 @@
 -- What is used may be any uncertainty; one that isn't is the speed zero, and not missing.
 use borrow.Author.Needs.{needs}
-use Rattle.records.proofs.TestLaws.{never, idle-speed, no-missing}
-use Rattle.records.proofs.motions.idle_speed.Statement.{statement}
-use Rattle.records.proofs.motions.idle_speed.Tie as tie
+use Rattle.quantities.proofs.TestLaws.{never}
+use Rattle.motions.proofs.TestLaws.{idle-speed, no-missing}
+use Rattle.motions.proofs.unused.idle_speed.Statement.{statement}
+use Rattle.motions.proofs.unused.idle_speed.Tie as tie
 
 returns : tie.Need-returns
 returns c = never (c .if1 .taken)

@@ -2,9 +2,9 @@
 use mathlib.Core.Path.{refl}
 use borrow.Author.Needs.{needs}
 use Rattle.ground.proofs.AnswerLaws.{shown, refuted}
-use Rattle.records.proofs.VelocityLaws.{listed-kind, in-range, velocity-done, nothing-refused, rest-refused, bearing-refused, uncertainty-refused, vertical-refused}
-use Rattle.records.proofs.motions.code_velocity.Statement.{statement}
-use Rattle.records.proofs.motions.code_velocity.Tie as tie
+use Rattle.motions.proofs.VelocityLaws.{listed-kind, in-range, velocity-done, nothing-refused, rest-refused, bearing-refused, uncertainty-refused, vertical-refused}
+use Rattle.motions.proofs.code_velocity.Statement.{statement}
+use Rattle.motions.proofs.code_velocity.Tie as tie
 
 enum-told : tie.Need-enum-told
 enum-told c = search needs

@@ -1,9 +1,9 @@
 -- Each kind's places are those that the layout table gives it.
 use mathlib.Core.Path.{sym, ap}
-use Rattle.records.specs.Kinds.{motionUsesOf}
+use Rattle.motions.specs.Unused.{motionUsesOf}
 use borrow.Author.Needs.{needs}
-use Rattle.records.proofs.kinds.motion_uses.Statement.{statement}
-use Rattle.records.proofs.kinds.motion_uses.Tie as tie
+use Rattle.motions.proofs.unused.motion_uses.Statement.{statement}
+use Rattle.motions.proofs.unused.motion_uses.Tie as tie
 
 enum-told : tie.Need-enum-told
 enum-told c = search needs

@@ -1,8 +1,9 @@
 -- What is used may be any quantity; the test is made of one that isn't.
 use borrow.Author.Needs.{needs}
-use Rattle.records.proofs.TestLaws.{never, idle-vertical}
-use Rattle.records.proofs.motions.idle_vertical.Statement.{statement}
-use Rattle.records.proofs.motions.idle_vertical.Tie as tie
+use Rattle.quantities.proofs.TestLaws.{never}
+use Rattle.motions.proofs.TestLaws.{idle-vertical}
+use Rattle.motions.proofs.unused.idle_vertical.Statement.{statement}
+use Rattle.motions.proofs.unused.idle_vertical.Tie as tie
 
 returns : tie.Need-returns
 returns c = never (c .if1 .taken)
