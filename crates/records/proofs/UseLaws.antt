@@ -15,7 +15,7 @@ use Rattle.layout.proofs.KindLaws.{pointsOf, point-width, no-point-width, fixed
 use Rattle.quantities.specs.Places.{Unused}
 use Rattle.quantities.proofs.UnusedLaws.{used-point, unused-point}
 use Rattle.quantities.proofs.TestLaws.{no-bits, no-bits-back}
-use Rattle.records.specs.Kinds.{uses}
+use Rattle.unused.specs.Kinds.{uses}
 
 -- ---- the groups
 

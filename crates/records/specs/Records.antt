@@ -10,9 +10,9 @@ use Rattle.layout.specs.declared.shapes.Kind.the-variants.{Nothing}
 use Rattle.layout.specs.declared.shapes.Shape.{Shape}
 use Rattle.layout.specs.Shapes.{blankShape}
 use Rattle.quantities.specs.declared.shapes.ShapeCoded.{ShapeCoded}
-use Rattle.records.specs.declared.points.Points.{Points}
-use Rattle.records.specs.declared.ranges.Ranged.{Ranged}
-use Rattle.records.specs.declared.sizes.Sizes.{Sizes}
+use Rattle.groups.specs.declared.points.Points.{Points}
+use Rattle.groups.specs.declared.ranges.Ranged.{Ranged}
+use Rattle.groups.specs.declared.sizes.Sizes.{Sizes}
 
 abbrev pub shapeJoined : Kind → ℕ → AltitudeCode → InnerRadiusCode → Ranged → Sizes → Points → Shape
 shapeJoined k n a b r s p = record {
