@@ -1,5 +1,6 @@
-// The record in a message of a kind, whose length is the kind's.
-use crate::points;
+// The record in the octets of a message of a kind, whose length is the kind's: document 01, "Octet layouts".
+mod points;
+
 use ground::AltitudeUncertaintyCode;
 use ground::ConfidenceCode;
 use ground::IncludedCode;
@@ -14,7 +15,7 @@ ghost use Prim.Native.Nat.{_≤_};
 ghost use lib.ListN.{length};
 ghost use Rattle.octets.specs.Bits.{bits};
 ghost use Rattle.layout.specs.declared.shapes.Kind.the-variants.{Circle, Ellipse, AltitudeEllipsoid, Arc};
-ghost use Rattle.reading.specs.Reading.{OfLength, recordOf, startOf, levelOf};
+ghost use Rattle.fetching.specs.Fetching.{OfLength, recordOf, startOf, levelOf};
 
 // n is a polygon's count.
 pub fn shape(s: &[u8], kind: Kind, n: u8) -> Shape

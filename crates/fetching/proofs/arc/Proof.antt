@@ -1,6 +1,6 @@
 use borrow.Author.Needs.{needs}
-use Rattle.reading.proofs.records.arc.Statement.{statement}
-use Rattle.reading.proofs.records.arc.Tie as tie
+use Rattle.fetching.proofs.arc.Statement.{statement}
+use Rattle.fetching.proofs.arc.Tie as tie
 
 started-requires : tie.Need-started-requires
 started-requires c κs = search needs

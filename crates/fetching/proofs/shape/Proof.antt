@@ -11,10 +11,10 @@ use Rattle.octets.proofs.BitLaws.{bits-lt}
 use Rattle.layout.specs.declared.shapes.Kind.{Kind}
 use Rattle.layout.specs.declared.shapes.Kind.the-variants.{Point, Circle, Ellipse, Polygon, AltitudePoint, AltitudeEllipsoid, Arc}
 use Rattle.layout.proofs.PolygonLaws.{polygon-length}
-use Rattle.reading.specs.Reading.{OfLength, recordOf, polygonOf}
-use Rattle.reading.proofs.PolygonRecord.{polygon-record}
-use Rattle.reading.proofs.records.shape.Statement.{statement}
-use Rattle.reading.proofs.records.shape.Tie as tie
+use Rattle.fetching.specs.Fetching.{OfLength, recordOf, polygonOf}
+use Rattle.fetching.proofs.PolygonRecord.{polygon-record}
+use Rattle.fetching.proofs.shape.Statement.{statement}
+use Rattle.fetching.proofs.shape.Tie as tie
 
 -- what the kind's own rows say of the length
 long : (s : List ℕ) (kind k : Kind) → kind ≡ k → OfLength kind s → OfLength k s

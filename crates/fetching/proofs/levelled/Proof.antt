@@ -1,6 +1,6 @@
 use borrow.Author.Needs.{needs}
-use Rattle.reading.proofs.records.levelled.Statement.{statement}
-use Rattle.reading.proofs.records.levelled.Tie as tie
+use Rattle.fetching.proofs.levelled.Statement.{statement}
+use Rattle.fetching.proofs.levelled.Tie as tie
 
 started-requires : tie.Need-started-requires
 started-requires c κs = search needs

@@ -12,8 +12,8 @@ use Rattle.layout.specs.Rows.{tag, read}
 use Rattle.layout.specs.Shapes.{upto, latitudeOf, longitudeOf, zeroLatitude, zeroLongitude}
 use Rattle.layout.proofs.TidyLaws.{read-bits, read-row}
 use Rattle.layout.proofs.PolygonLaws.{point-row, point-found, none-found}
-use Rattle.reading.specs.Reading.{rowsFor, recordOf, polygonOf}
-use Rattle.reading.proofs.Filling.{padded}
+use Rattle.fetching.specs.Fetching.{rowsFor, recordOf, polygonOf}
+use Rattle.fetching.proofs.Filling.{padded}
 
 module _ (s : List ℕ) where
   n : ℕ

@@ -4,7 +4,7 @@ use layout::Shape;
 ghost use mathlib.Core.Path.{_≡_};
 ghost use Prim.Native.Nat.{_+_, _*_, _≤_};
 ghost use lib.ListN.{length};
-ghost use Rattle.reading.specs.Reading.{polygonOf};
+ghost use Rattle.fetching.specs.Fetching.{polygonOf};
 
 // The record of the first n points.
 pub fn polygon(s: &[u8], n: u8) -> Shape

@@ -1,6 +1,6 @@
 use borrow.Author.Needs.{needs}
-use Rattle.reading.proofs.records.altitude_ellipsoid.Statement.{statement}
-use Rattle.reading.proofs.records.altitude_ellipsoid.Tie as tie
+use Rattle.fetching.proofs.altitude_ellipsoid.Statement.{statement}
+use Rattle.fetching.proofs.altitude_ellipsoid.Tie as tie
 
 levelled-requires : tie.Need-levelled-requires
 levelled-requires c κs = search needs

@@ -1,6 +1,6 @@
 use borrow.Author.Needs.{needs}
-use Rattle.reading.proofs.records.circle.Statement.{statement}
-use Rattle.reading.proofs.records.circle.Tie as tie
+use Rattle.fetching.proofs.circle.Statement.{statement}
+use Rattle.fetching.proofs.circle.Tie as tie
 
 started-requires : tie.Need-started-requires
 started-requires c κs = search needs

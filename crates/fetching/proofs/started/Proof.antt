@@ -1,6 +1,6 @@
 use borrow.Author.Needs.{needs}
-use Rattle.reading.proofs.records.started.Statement.{statement}
-use Rattle.reading.proofs.records.started.Tie as tie
+use Rattle.fetching.proofs.started.Statement.{statement}
+use Rattle.fetching.proofs.started.Tie as tie
 
 blank-shape-requires : tie.Need-blank-shape-requires
 blank-shape-requires c κs = search needs

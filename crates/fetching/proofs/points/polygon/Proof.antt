@@ -10,10 +10,10 @@ use Rattle.ground.specs.declared.codes.LongitudeCode.{LongitudeCode}
 use Rattle.octets.specs.Codes.{fromComplement, latitudeIn, longitudeIn}
 use Rattle.layout.specs.declared.shapes.Kind.the-variants.{Polygon}
 use Rattle.layout.specs.Shapes.{blankShape, zeroLatitude, zeroLongitude}
-use Rattle.reading.specs.Reading.{pointed, latitudesOf, longitudesOf}
-use Rattle.reading.proofs.Filling.{fill}
-use Rattle.reading.proofs.points.polygon.Statement.{statement}
-use Rattle.reading.proofs.points.polygon.Tie as tie
+use Rattle.fetching.specs.Fetching.{pointed, latitudesOf, longitudesOf}
+use Rattle.fetching.proofs.Filling.{fill}
+use Rattle.fetching.proofs.points.polygon.Statement.{statement}
+use Rattle.fetching.proofs.points.polygon.Tie as tie
 
 abbrev Inv-loop : tie.InvT-loop
 Inv-loop s n shape₀ i₀ shape i = (i ≤ n) × (shape ≡ pointed (blankShape Polygon) n (latitudesOf i s) (longitudesOf i s))

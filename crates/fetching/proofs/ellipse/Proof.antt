@@ -1,6 +1,6 @@
 use borrow.Author.Needs.{needs}
-use Rattle.reading.proofs.records.ellipse.Statement.{statement}
-use Rattle.reading.proofs.records.ellipse.Tie as tie
+use Rattle.fetching.proofs.ellipse.Statement.{statement}
+use Rattle.fetching.proofs.ellipse.Tie as tie
 
 started-requires : tie.Need-started-requires
 started-requires c κs = search needs
