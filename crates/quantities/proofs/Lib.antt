@@ -1,3 +1,4 @@
 pub mod ZeroLaws
 pub mod UnusedLaws
 pub mod HeldLaws
+pub mod TestLaws

@@ -1,11 +1,12 @@
--- Zero is reported as zero and coded as zero, in every field but the included angle's, where 0 has no code. Assumes nothing.
-use Prim.Native.Nat.{zero}
-use mathlib.Core.Path.{_≡_, sym, subst}
+-- Zero is reported as zero and coded as zero, in every field but the included angle's, where 0 has no code; and a quantity that has a code
+-- is not refused. Assumes nothing.
+use Prim.Native.Nat.{ℕ, zero, suc, _<_}
+use mathlib.Core.Path.{_≡_, refl, sym, subst}
 use mathlib.Core.Bool.{Bool, true, false}
 use native.Mathlib.Omega.{arith}
 use lib.Dec.{T}
-use Rattle.ground.specs.Answers.{Said, done}
-use Rattle.ground.proofs.AnswerLaws.{said-one}
+use Rattle.ground.specs.Answers.{Said, done, refused}
+use Rattle.ground.proofs.AnswerLaws.{said-one, done-not-refused}
 use Rattle.fields.specs.Fields.{Field, latitude, longitude, uncertainty, altitudeUncertainty, altitude, innerRadius, offset, included, orientation, bearing, horizontalSpeed, verticalSpeed, uncertaintySpeed, confidence, CodeOf, QuantityOf, Coding, Reporting}
 use Rattle.fields.proofs.OneAnswer.{coding-one, reporting-one}
 use Rattle.fields.proofs.Kept.{own-set}
@@ -55,3 +56,18 @@ zero-coded f h = own-set f (zeroCode f) (zeroQuantity f) (zero-reported f h)
 
 pub codes-zero : (f : Field) (x : QuantityOf f) (a : Said (CodeOf f)) → hasZero f ≡ true → x ≡ zeroQuantity f → Coding f x a → a ≡ done (zeroCode f)
 codes-zero f x a h e p = coding-one f x a (done (zeroCode f)) p (rw e (zero-coded f h))
+
+-- ---- refusals
+
+pub not-refused : (f : Field) (x : QuantityOf f) (c : CodeOf f) (n : ℕ) → Coding f x (done c) → Coding f x (refused n) → ⊥
+not-refused f x c n p q = done-not-refused (coding-one f x (done c) (refused n) p q)
+
+module _ (f : Field) (has : hasZero f ≡ true) where
+  module _ (x : QuantityOf f) where
+    pub zero-has-code : x ≡ zeroQuantity f → (c : CodeOf f) → Coding f x (done c) → c ≡ zeroCode f
+    zero-has-code e c p = let d = codes-zero f x (done c) has e p in cc
+
+    -- a quantity whose place has w bits: it is zero where it has none
+    pub kept : (n w : ℕ) → (0 < w → Coding f x (refused n) → ⊥) → (w ≡ 0 → x ≡ zeroQuantity f) → Coding f x (refused n) → ⊥
+    kept n zero used unused p = let d = codes-zero f x (refused n) has (unused refl) p in let z : _≡_ {A = ℕ} 0 1 = cc in omega arith
+    kept n (suc w) used unused p = used (omega arith) p

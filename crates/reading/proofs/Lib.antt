@@ -1,5 +1,3 @@
 pub mod AnswerKinds
 pub mod TypeNumbers
-pub mod Filling
-pub mod PolygonRecord
 pub mod ReadLaws

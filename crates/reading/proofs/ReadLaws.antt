@@ -21,7 +21,8 @@ use Rattle.layout.specs.Demands.{Used, CountSound, AnglesSound, ConfidenceSound
 use Rattle.layout.specs.Shapes.{kindOf, kindIn, rowsIn, shapeIn, blankShape, ReadsShape}
 use Rattle.layout.proofs.TidyLaws.{read-in-fields}
 use Rattle.layout.proofs.PolygonLaws.{none-found}
-use Rattle.reading.specs.Reading.{rowsFor, FormAnswer, OfLength, recordOf, RefusedWith}
+use Rattle.fetching.specs.Fetching.{rowsFor, OfLength, recordOf}
+use Rattle.reading.specs.Reading.{FormAnswer, RefusedWith}
 
 -- ---- the codes: what is not used reads 0, so a demand on every code is one on those that are used
 

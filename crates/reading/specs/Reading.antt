@@ -1,27 +1,16 @@
 -- What the parts of the reader promise, in the words of the layout table. Assumes nothing.
 use mathlib.Core.Path.{_≡_}
-use mathlib.Core.List.{List, _++_}
-use Prim.Native.Nat.{ℕ, _+_, _-_, _*_}
-use lib.ListN.{length, replicate}
+use Prim.Native.Nat.{ℕ}
 use Rattle.ground.specs.Answers.{Unless, Else0}
-use Rattle.ground.specs.declared.codes.LatitudeCode.{LatitudeCode}
-use Rattle.ground.specs.declared.codes.LongitudeCode.{LongitudeCode}
 use Rattle.ground.specs.declared.refusals.Refusal.{Refusal}
 use Rattle.ground.specs.declared.refusals.Outcome.the-variants.{Refused}
-use Rattle.octets.specs.Bits.{bits}
-use Rattle.octets.specs.Codes.{latitudeIn, longitudeIn}
 use Rattle.layout.specs.declared.shapes.Kind.{Kind}
-use Rattle.layout.specs.declared.shapes.Kind.the-variants.{Nothing, Polygon}
-use Rattle.layout.specs.declared.shapes.Shape.{Shape}
+use Rattle.layout.specs.declared.shapes.Kind.the-variants.{Nothing}
 use Rattle.layout.specs.declared.shapes.ShapeRead.{ShapeRead}
-use Rattle.layout.specs.Layout.{Row, shapeRows, start, level}
-use Rattle.layout.specs.Rows.{read, lengthOf}
+use Rattle.layout.specs.Layout.{shapeRows}
+use Rattle.layout.specs.Rows.{lengthOf}
 use Rattle.layout.specs.Demands.{Listed, CountSound}
-use Rattle.layout.specs.Shapes.{shapeOf, blankShape, upto, zeroLatitude, zeroLongitude}
-
--- the rows of a kind, where the octets give a polygon's count
-abbrev pub rowsFor : Kind → List ℕ → List Row
-rowsFor k s = shapeRows k (bits s 4 4)
+use Rattle.layout.specs.Shapes.{blankShape}
 
 -- 3, of the length of a message and a number of octets
 abbrev pub LengthAnswer : ℕ → ℕ → ℕ → Type 0
@@ -31,49 +20,6 @@ LengthAnswer whole octets = Unless (octets ≡ whole) 3 Else0
 abbrev pub FormAnswer : Kind → ℕ → ℕ → ℕ → Type 0
 FormAnswer k n octets =
     Unless (Listed (shapeRows k n)) 2 (Unless (CountSound (shapeRows k n) (λ f. n)) 4 (LengthAnswer (lengthOf (shapeRows k n)) octets))
-
-abbrev pub OfLength : Kind → List ℕ → Type 0
-OfLength k s = length s ≡ lengthOf (rowsFor k s)
-
--- the record of a kind in octets; of the start alone; with the altitude
-abbrev pub recordOf : Kind → List ℕ → Shape
-recordOf k s = shapeOf k (read s (rowsFor k s))
-
-abbrev pub startOf : Kind → List ℕ → Shape
-startOf k s = shapeOf k (read s start)
-
-abbrev pub levelOf : Kind → List ℕ → Shape
-levelOf k s = shapeOf k (read s (start ++ level))
-
--- a polygon's record: n points of six octets after the first octet, and zeros
-abbrev pub latitudesOf : ℕ → List ℕ → List LatitudeCode
-latitudesOf n s = upto n (λ i. latitudeIn s (8 * (1 + 6 * i))) ++ replicate (15 - n) zeroLatitude
-
-abbrev pub longitudesOf : ℕ → List ℕ → List LongitudeCode
-longitudesOf n s = upto n (λ i. longitudeIn s (8 * (4 + 6 * i))) ++ replicate (15 - n) zeroLongitude
-
-abbrev pub pointed : Shape → ℕ → List LatitudeCode → List LongitudeCode → Shape
-pointed x n lats lons = record {
-  kind = x .kind;
-  latitude = x .latitude;
-  longitude = x .longitude;
-  altitude = x .altitude;
-  uncertainty = x .uncertainty;
-  «semi_major» = x .«semi_major»;
-  «semi_minor» = x .«semi_minor»;
-  orientation = x .orientation;
-  «altitude_uncertainty» = x .«altitude_uncertainty»;
-  confidence = x .confidence;
-  «inner_radius» = x .«inner_radius»;
-  offset = x .offset;
-  included = x .included;
-  count = n;
-  latitudes = lats;
-  longitudes = lons;
-}
-
-abbrev pub polygonOf : ℕ → List ℕ → Shape
-polygonOf n s = pointed (blankShape Polygon) n (latitudesOf n s) (longitudesOf n s)
 
 -- a refusal hands back the record of no shape
 pub record RefusedWith (why : Refusal) (r : ShapeRead) : Type 0 where

@@ -1,8 +1,6 @@
 // Octets to a shape's record: document 01, "Octet layouts" and "Refusal numbers".
 mod answers;
 mod kinds;
-mod points;
-mod records;
 
 use ground::Outcome;
 use ground::Refusal;
@@ -25,7 +23,7 @@ pub fn read_shape(s: &[u8]) -> ShapeRead
     if let Outcome::Refused(why) = answers::outcome(s.len(), kind, n) {
         return refused(why);
     }
-    let shape = records::shape(s, kind, n);
+    let shape = fetching::shape(s, kind, n);
     if let Outcome::Refused(why) = layout::codes_outcome(
         shape.orientation.0,
         shape.offset.0,

@@ -31,17 +31,18 @@ use Rattle.quantities.specs.Places as place
 use Rattle.quantities.specs.Promises.{InRange, Covered, CodeAnswer, Given}
 use Rattle.quantities.specs.Shapes.{codeAt, quantityAt, quantityRows, zeroDegrees, RecordOf, CodesShape}
 use Rattle.quantities.proofs.UnusedLaws.{points-counted}
-use Rattle.records.specs.declared.points.Points.{Points}
-use Rattle.records.specs.declared.ranges.Ranged.{Ranged}
-use Rattle.records.specs.declared.sizes.Sizes.{Sizes}
-use Rattle.records.specs.declared.kinds.Uses.{Uses}
-use Rattle.records.specs.Kinds.{Formed, usesOf}
-use Rattle.records.specs.Points.{PointsKept, PointsCodes}
-use Rattle.records.specs.Ranges.{RangesKept, RangedCodes, IncludedCodes}
+use Rattle.groups.specs.declared.points.Points.{Points}
+use Rattle.groups.specs.declared.ranges.Ranged.{Ranged}
+use Rattle.groups.specs.declared.sizes.Sizes.{Sizes}
+use Rattle.unused.specs.declared.Uses.{Uses}
+use Rattle.unused.specs.Kinds.{usesOf}
+use Rattle.records.specs.Kinds.{Formed}
+use Rattle.groups.specs.Points.{PointsKept, PointsCodes}
+use Rattle.groups.specs.Ranges.{RangesKept, RangedCodes, IncludedCodes}
 use Rattle.records.specs.Records.{RefusedShape, shapeJoined}
-use Rattle.records.specs.Sizes.{SizesCovered, SizeCodes}
-use Rattle.records.specs.Unused.{RestZero}
-use Rattle.records.proofs.ZeroLaws.{not-refused, zero-has-code, kept}
+use Rattle.groups.specs.Sizes.{SizesCovered, SizeCodes}
+use Rattle.unused.specs.Unused.{RestZero}
+use Rattle.quantities.proofs.ZeroLaws.{not-refused, zero-has-code, kept}
 use Rattle.records.proofs.UseLaws.{grouped, idle, idle-back, active, active-back, count-idle, count-idle-back, latitude-used, longitude-used, latitude-unused, longitude-unused, latitude-counted, longitude-counted, latitude-past, longitude-past}
 
 module _ (q : ShapeQuantities) where

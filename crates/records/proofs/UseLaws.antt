@@ -14,15 +14,8 @@ use Rattle.layout.specs.Demands.{Used}
 use Rattle.layout.proofs.KindLaws.{pointsOf, point-width, no-point-width, fixed-width}
 use Rattle.quantities.specs.Places.{Unused}
 use Rattle.quantities.proofs.UnusedLaws.{used-point, unused-point}
-use Rattle.records.specs.Kinds.{uses}
-
--- ---- a width and its test
-
-pub no-bits : (w : ℕ) → w ≡ 0 → ltb 0 w ≡ false
-no-bits w e = le-ltb 0 w (omega arith)
-
-pub no-bits-back : (w : ℕ) → ltb 0 w ≡ false → w ≡ 0
-no-bits-back w e = omega (arith, ltb-false 0 w e)
+use Rattle.quantities.proofs.TestLaws.{no-bits, no-bits-back}
+use Rattle.unused.specs.Kinds.{uses}
 
 -- ---- the groups
 

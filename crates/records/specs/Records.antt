@@ -6,16 +6,13 @@ use Rattle.ground.specs.declared.codes.InnerRadiusCode.{InnerRadiusCode}
 use Rattle.ground.specs.declared.refusals.Refusal.{Refusal}
 use Rattle.ground.specs.declared.refusals.Outcome.the-variants.{Refused}
 use Rattle.layout.specs.declared.shapes.Kind.{Kind}
-use Rattle.layout.specs.declared.shapes.Kind.the-variants as shape
+use Rattle.layout.specs.declared.shapes.Kind.the-variants.{Nothing}
 use Rattle.layout.specs.declared.shapes.Shape.{Shape}
-use Rattle.layout.specs.declared.velocities.VelocityKind.the-variants as velocity
 use Rattle.layout.specs.Shapes.{blankShape}
-use Rattle.layout.specs.Velocities.{blankVelocity}
 use Rattle.quantities.specs.declared.shapes.ShapeCoded.{ShapeCoded}
-use Rattle.quantities.specs.declared.velocities.VelocityCoded.{VelocityCoded}
-use Rattle.records.specs.declared.points.Points.{Points}
-use Rattle.records.specs.declared.ranges.Ranged.{Ranged}
-use Rattle.records.specs.declared.sizes.Sizes.{Sizes}
+use Rattle.groups.specs.declared.points.Points.{Points}
+use Rattle.groups.specs.declared.ranges.Ranged.{Ranged}
+use Rattle.groups.specs.declared.sizes.Sizes.{Sizes}
 
 abbrev pub shapeJoined : Kind → ℕ → AltitudeCode → InnerRadiusCode → Ranged → Sizes → Points → Shape
 shapeJoined k n a b r s p = record {
@@ -39,8 +36,4 @@ shapeJoined k n a b r s p = record {
 
 pub record RefusedShape (why : Refusal) (r : ShapeCoded) : Type 0 where
   pub outcome : r .outcome ≡ Refused why
-  pub shape : r .shape ≡ blankShape shape.Nothing
-
-pub record RefusedVelocity (why : Refusal) (r : VelocityCoded) : Type 0 where
-  pub outcome : r .outcome ≡ Refused why
-  pub velocity : r .velocity ≡ blankVelocity velocity.Nothing
+  pub shape : r .shape ≡ blankShape Nothing

@@ -1,32 +1,9 @@
-// The kinds of shapes: their form, and what they use.
+// The form of quantities.
 use ground::Outcome;
 use ground::Refusal;
 use layout::Kind;
-use layout::VelocityKind;
-ghost use mathlib.Core.Path.{_≡_};
 ghost use Rattle.ground.specs.Answers.{outcomeNumber};
-ghost use Rattle.records.specs.Kinds.{FormAnswer, usesOf, usesGiven, motionUsesOf};
-
-// Whether a kind uses the places of a group.
-pub struct Uses {
-    pub position: bool,
-    pub altitude: bool,
-    pub uncertainty: bool,
-    // semi-major, semi-minor and orientation
-    pub axes: bool,
-    pub altitude_uncertainty: bool,
-    pub confidence: bool,
-    // inner radius, offset and included
-    pub arc: bool,
-    pub count: bool,
-}
-
-// The same of a velocity's kind, for what not every velocity has.
-pub struct MotionUses {
-    pub vertical_speed: bool,
-    pub uncertainty: bool,
-    pub vertical_uncertainty: bool,
-}
+ghost use Rattle.records.specs.Kinds.{FormAnswer};
 
 // 2 and 4.
 pub fn form(kind: Kind, count: u8) -> Outcome
@@ -49,77 +26,5 @@ pub fn form(kind: Kind, count: u8) -> Outcome
         Kind::AltitudePoint => Outcome::Done,
         Kind::AltitudeEllipsoid => Outcome::Done,
         Kind::Arc => Outcome::Done,
-    }
-}
-
-// In the order of the groups.
-pub fn used_by(kind: Kind) -> Uses
-    ensures { λ r. ⌜ r ≡ usesOf kind ⌝ }
-{
-    match kind {
-        Kind::Nothing => used(false, false, false, false, false, false, false, false),
-        Kind::Point => used(true, false, false, false, false, false, false, false),
-        Kind::Circle => used(true, false, true, false, false, false, false, false),
-        Kind::Ellipse => used(true, false, false, true, false, true, false, false),
-        Kind::Polygon => used(false, false, false, false, false, false, false, true),
-        Kind::AltitudePoint => used(true, true, false, false, false, false, false, false),
-        Kind::AltitudeEllipsoid => used(true, true, false, true, true, true, false, false),
-        Kind::Arc => used(true, false, true, false, false, true, true, false),
-    }
-}
-
-fn used(
-    position: bool,
-    altitude: bool,
-    uncertainty: bool,
-    axes: bool,
-    altitude_uncertainty: bool,
-    confidence: bool,
-    arc: bool,
-    count: bool,
-) -> Uses
-    ensures { λ r. ⌜ r ≡ usesGiven position altitude uncertainty axes «altitude_uncertainty» confidence arc count ⌝ }
-{
-    Uses {
-        position,
-        altitude,
-        uncertainty,
-        axes,
-        altitude_uncertainty,
-        confidence,
-        arc,
-        count,
-    }
-}
-
-pub fn motion_uses(kind: VelocityKind) -> MotionUses
-    ensures { λ r. ⌜ r ≡ motionUsesOf kind ⌝ }
-{
-    match kind {
-        VelocityKind::Nothing => MotionUses {
-            vertical_speed: false,
-            uncertainty: false,
-            vertical_uncertainty: false,
-        },
-        VelocityKind::Horizontal => MotionUses {
-            vertical_speed: false,
-            uncertainty: false,
-            vertical_uncertainty: false,
-        },
-        VelocityKind::HorizontalVertical => MotionUses {
-            vertical_speed: true,
-            uncertainty: false,
-            vertical_uncertainty: false,
-        },
-        VelocityKind::HorizontalUncertain => MotionUses {
-            vertical_speed: false,
-            uncertainty: true,
-            vertical_uncertainty: false,
-        },
-        VelocityKind::HorizontalVerticalUncertain => MotionUses {
-            vertical_speed: true,
-            uncertainty: true,
-            vertical_uncertainty: true,
-        },
     }
 }

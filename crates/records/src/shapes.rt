@@ -1,18 +1,14 @@
 // A shape's record from its quantities.
 use crate::kinds;
-use crate::points;
-use crate::points::Points;
-use crate::ranges;
-use crate::ranges::Ranged;
-use crate::ranges::RangedCoded;
-use crate::sizes;
-use crate::sizes::Sizes;
-use crate::sizes::SizesCoded;
-use crate::unused;
 use ground::AltitudeCode;
 use ground::InnerRadiusCode;
 use ground::Outcome;
 use ground::Refusal;
+use groups::Points;
+use groups::Ranged;
+use groups::RangedCoded;
+use groups::Sizes;
+use groups::SizesCoded;
 use layout::Kind;
 use layout::Shape;
 use quantities::ShapeCoded;
@@ -39,23 +35,23 @@ fn coded(quantities: ShapeQuantities) -> ShapeCoded
     ensures { λ r. ⌜ CodesShape quantities r ⌝ }
 {
     let kind = quantities.kind;
-    let uses = kinds::used_by(kind);
+    let uses = unused::used_by(kind);
     if !unused::is_zero(uses, quantities) {
         return refused(Refusal::OutOfRange);
     }
     if quantities.semi_major.0 < quantities.semi_minor.0 {
         return refused(Refusal::OutOfRange);
     }
-    let RangedCoded::Codes(ranged) = ranges::coded(uses.arc, quantities) else {
+    let RangedCoded::Codes(ranged) = groups::code_ranges(uses.arc, quantities) else {
         return refused(Refusal::OutOfRange);
     };
     let latitudes = quantities.latitudes;
     let longitudes = quantities.longitudes;
-    let points = points::coded(latitudes, longitudes, quantities.count);
+    let points = groups::code_points(latitudes, longitudes, quantities.count);
     if !points.in_range {
         return refused(Refusal::OutOfRange);
     }
-    let SizesCoded::Codes(sizes) = sizes::coded(quantities) else {
+    let SizesCoded::Codes(sizes) = groups::code_sizes(quantities) else {
         return refused(Refusal::UncertaintyTooLarge);
     };
     let altitude = lengths::altitude_code(quantities.altitude);

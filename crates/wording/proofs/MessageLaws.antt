@@ -20,7 +20,9 @@ use Rattle.layout.specs.Shapes.{rowsIn, shapeIn, blankShape, ReadsShape}
 use Rattle.layout.specs.Velocities.{velocityRowsIn, velocityIn, blankVelocity, ReadsVelocity}
 use Rattle.trips.specs.ReadNumbers.{readNumber}
 use Rattle.trips.proofs.ReadNumberLaws.{read-number-is}
-use Rattle.wording.specs.Wording.{shapeText, velocityText, answerText, messageText}
+use Rattle.outlines.specs.Outlines.{shapeText}
+use Rattle.courses.specs.Courses.{velocityText}
+use Rattle.wording.specs.Wording.{answerText, messageText}
 
 not-0 : (why : Refusal) → numberOf why ≡ 0 → ⊥
 not-0 why e = let one : numberOf why ≡ 1 = ap numberOf (sym (refusal-back why) ∙ ap refusalOf e) in absurd (omega arith)

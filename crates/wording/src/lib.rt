@@ -1,8 +1,4 @@
-// The text of a message, put into a lent buffer: document 01, "The lister". No number takes more than 20 octets, a space before it.
-mod motions;
-mod numbers;
-mod shapes;
-
+// The text of a message, put into a lent buffer: document 01, "The lister".
 use ground::Outcome;
 ghost use Prim.Native.Nat.{_+_, _≤_};
 ghost use lib.ListN.{length};
@@ -29,7 +25,7 @@ fn put_shape(out: &mut [u8], at: usize, m: &[u8]) -> usize
     match outcome {
         Outcome::Done => {
             let shape = read.shape;
-            shapes::put(out, at, shape)
+            outlines::put_shape(out, at, shape)
         }
         Outcome::Refused(why) => text::put_decimal(out, at, ground::refusal_number(why)),
     }
@@ -44,7 +40,7 @@ fn put_velocity(out: &mut [u8], at: usize, m: &[u8]) -> usize
     match outcome {
         Outcome::Done => {
             let velocity = read.velocity;
-            motions::put(out, at, velocity)
+            courses::put_velocity(out, at, velocity)
         }
         Outcome::Refused(why) => text::put_decimal(out, at, ground::refusal_number(why)),
     }

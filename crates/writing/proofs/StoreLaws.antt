@@ -43,7 +43,7 @@ use Rattle.layout.proofs.PolygonLaws.{polygon-length}
 use Rattle.layout.proofs.MessageLaws.{Position, positionOctets, pointOctets, point-message, circle-message, ellipse-message, altitude-point-message, ellipsoid-message, arc-message, polygon-message}
 use Rattle.octets.specs.Codes.{position}
 use Rattle.writing.specs.Storing.{positions, rest, Storable}
-use Rattle.writing.proofs.LimitLaws.{points-within}
+use Rattle.limits.proofs.LimitLaws.{points-within}
 
 -- ---- runs of stores
 

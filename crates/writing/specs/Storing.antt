@@ -1,6 +1,6 @@
 -- The octets that the parts of the writer store. Assumes nothing.
 use mathlib.Core.List.{List, [], _∷_, _++_}
-use Prim.Native.Nat.{ℕ, zero, suc, _+_, _*_, _≤_}
+use Prim.Native.Nat.{ℕ, zero, suc, _≤_}
 use lib.ListN.{getD, drop}
 use Rattle.ground.specs.declared.codes.LatitudeCode.{LatitudeCode}
 use Rattle.ground.specs.declared.codes.LongitudeCode.{LongitudeCode}

@@ -3,13 +3,12 @@ use crate::points;
 use layout::Kind;
 use layout::Shape;
 ghost use mathlib.Core.Path.{_≡_};
-ghost use mathlib.Core.List.{[], _∷_};
-ghost use Prim.Native.Nat.{_+_, _*_, _<_, _≤_};
+ghost use Prim.Native.Nat.{_≤_};
 ghost use lib.ListN.{length};
 ghost use lib.Seq.{sets};
 ghost use Rattle.layout.specs.Rows.{lengthOf};
 ghost use Rattle.layout.specs.Shapes.{rowsOf};
-ghost use Rattle.writing.specs.Limits.{ShapeInFields};
+ghost use Rattle.limits.specs.Limits.{ShapeInFields};
 ghost use Rattle.writing.specs.Storing.{Storable, stored, restOf};
 
 // Stores the message.

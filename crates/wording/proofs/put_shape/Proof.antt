@@ -6,7 +6,7 @@ use Rattle.text.specs.Text.{decimal}
 use Rattle.text.proofs.OutputLaws.{decimal-most}
 use Rattle.text.proofs.WithinLaws.{decimal-within}
 use Rattle.trips.proofs.ShapeTrips.{shape-accepted}
-use Rattle.wording.proofs.WordLaws.{worded}
+use Rattle.words.proofs.WordLaws.{worded}
 use Rattle.wording.proofs.MessageLaws.{shape-done, shape-refused}
 use Rattle.wording.proofs.put_shape.Statement.{statement}
 use Rattle.wording.proofs.put_shape.Tie as tie
@@ -17,8 +17,8 @@ read-shape-requires c κs = tt
 enum-told : tie.Need-enum-told
 enum-told c = c .match .keys1
 
-put-requires : tie.Need-put-requires
-put-requires c κs =
+put-shape-requires : tie.Need-put-shape-requires
+put-shape-requires c κs =
     let read = c .before .before .before .before .read-shape in
     (c .before .before .before .before .before .before .before .pre, shape-accepted (now (c .before .before .before .before .before .before .before .args .m)) (read .result) (read .ensures) (c .before .before .enum-told .given .1))
 
@@ -32,12 +32,12 @@ put-decimal-requires : tie.Need-put-decimal-requires
 put-decimal-requires c κs = omega (arith, decimal-most {n = c .refusal-number .result} (omega arith))
 
 same-length : tie.Need-same-length
-same-length c = c .before .before .put .kept .0
+same-length c = c .before .before .put-shape .kept .0
 
 returns : tie.Need-returns
 returns c =
     let read = c .before .before .before .before .before .before .before .read-shape in
-    worded (omega arith) (shape-done (now (c .before .before .before .before .before .before .before .before .before .before .args .m)) (read .result) (read .ensures) (c .before .before .before .before .before .enum-told .given .1)) (c .before .before .put .ensures)
+    worded (omega arith) (shape-done (now (c .before .before .before .before .before .before .before .before .before .before .args .m)) (read .result) (read .ensures) (c .before .before .before .before .before .enum-told .given .1)) (c .before .before .put-shape .ensures)
 
 same-length-2 : tie.Need-same-length-2
 same-length-2 c = c .before .before .put-decimal .kept .0
@@ -55,7 +55,7 @@ put-shape-spec =
     (tie.spec
     read-shape-requires
     enum-told
-    put-requires
+    put-shape-requires
     enum-known-outcome
     refusal-number-requires
     put-decimal-requires

@@ -29,8 +29,8 @@ returns-2 c =
     let q = c .before .before .before .before .before .before .args .quantities in
     out-of-range q (c .refused2 .result) (c .before .before .before .before .before .before .pre) (c .refused2 .ensures) (λ r. absurd (omega (arith, r .axes, c .before .if2 .taken)))
 
-coded-requires : tie.Need-coded-requires
-coded-requires c κs = search needs
+code-ranges-requires : tie.Need-code-ranges-requires
+code-ranges-requires c κs = search needs
 
 enum-known-ranged : tie.Need-enum-known-ranged
 enum-known-ranged c = search needs
@@ -44,11 +44,11 @@ refused-requires-3 c κs = search needs
 returns-3 : tie.Need-returns-3
 returns-3 c =
     let q = c .before .before .before .before .before .before .before .before .before .args .quantities in
-    let out = rw (c .before .enum-told .given .1, c .before .before .before .before .before .before .before .before .used-by .ensures) at (c .before .before .before .coded .ensures) in
+    let out = rw (c .before .enum-told .given .1, c .before .before .before .before .before .before .before .before .used-by .ensures) at (c .before .before .before .code-ranges .ensures) in
     out-of-range q (c .refused3 .result) (c .before .before .before .before .before .before .before .before .before .pre) (c .refused3 .ensures) (λ r. out (ranges-kept q r))
 
-coded-requires-2 : tie.Need-coded-requires-2
-coded-requires-2 c κs = search needs
+code-points-requires : tie.Need-code-points-requires
+code-points-requires c κs = search needs
 
 refused-requires-4 : tie.Need-refused-requires-4
 refused-requires-4 c κs = search needs
@@ -56,10 +56,10 @@ refused-requires-4 c κs = search needs
 returns-4 : tie.Need-returns-4
 returns-4 c =
     let q = c .before .before .before .before .before .before .before .before .before .before .before .before .before .before .before .args .quantities in
-    out-of-range q (c .refused4 .result) (c .before .before .before .before .before .before .before .before .before .before .before .before .before .before .before .pre) (c .refused4 .ensures) (λ r. c .before .before .before .coded2 .ensures .out (not-true _ (c .before .if3 .taken)) (points-kept q r))
+    out-of-range q (c .refused4 .result) (c .before .before .before .before .before .before .before .before .before .before .before .before .before .before .before .pre) (c .refused4 .ensures) (λ r. c .before .before .before .code-points .ensures .out (not-true _ (c .before .if3 .taken)) (points-kept q r))
 
-coded-requires-3 : tie.Need-coded-requires-3
-coded-requires-3 c κs = search needs
+code-sizes-requires : tie.Need-code-sizes-requires
+code-sizes-requires c κs = search needs
 
 enum-known-sizes : tie.Need-enum-known-sizes
 enum-known-sizes c = search needs
@@ -74,10 +74,10 @@ returns-5 : tie.Need-returns-5
 returns-5 c =
     let q = c .before .before .before .before .before .before .before .before .before .before .before .before .before .before .before .before .before .before .args .quantities in
     let z = shown (c .before .before .before .before .before .before .before .before .before .before .before .before .before .before .before .before .is-zero .result) (c .before .before .before .before .before .before .before .before .before .before .before .before .before .before .before .if1 .left) (rw (c .before .before .before .before .before .before .before .before .before .before .before .before .before .before .before .before .before .used-by .ensures) at (c .before .before .before .before .before .before .before .before .before .before .before .before .before .before .before .before .is-zero .ensures)) in
-    let ranged = rw (c .before .before .before .before .before .before .before .before .before .before .ranged .given .1, c .before .before .before .before .before .before .before .before .before .before .before .before .before .before .before .before .before .used-by .ensures) at (c .before .before .before .before .before .before .before .before .before .before .before .before .coded .ensures) in
-    let points = c .before .before .before .before .before .before .coded2 .ensures .coded (not-false _ (c .before .before .before .before .if3 .left)) in
-    let r = in-range q z (omega (arith, c .before .before .before .before .before .before .before .before .before .before .before .before .before .if2 .left)) (c .before .before .before .before .before .before .before .before .before .before .ranged .given .0 .0) ranged (c .before .before .before .before .before .before .coded2 .result) points in
-    too-large q (c .refused5 .result) (c .before .before .before .before .before .before .before .before .before .before .before .before .before .before .before .before .before .before .pre) r (c .refused5 .ensures) (rw (c .before .enum-told2 .given .1) at (c .before .before .before .coded3 .ensures))
+    let ranged = rw (c .before .before .before .before .before .before .before .before .before .before .ranged .given .1, c .before .before .before .before .before .before .before .before .before .before .before .before .before .before .before .before .before .used-by .ensures) at (c .before .before .before .before .before .before .before .before .before .before .before .before .code-ranges .ensures) in
+    let points = c .before .before .before .before .before .before .code-points .ensures .coded (not-false _ (c .before .before .before .before .if3 .left)) in
+    let r = in-range q z (omega (arith, c .before .before .before .before .before .before .before .before .before .before .before .before .before .if2 .left)) (c .before .before .before .before .before .before .before .before .before .before .ranged .given .0 .0) ranged (c .before .before .before .before .before .before .code-points .result) points in
+    too-large q (c .refused5 .result) (c .before .before .before .before .before .before .before .before .before .before .before .before .before .before .before .before .before .before .pre) r (c .refused5 .ensures) (rw (c .before .enum-told2 .given .1) at (c .before .before .before .code-sizes .ensures))
 
 altitude-code-requires : tie.Need-altitude-code-requires
 altitude-code-requires c κs = search needs
@@ -92,11 +92,11 @@ returns-6 : tie.Need-returns-6
 returns-6 c =
     let q = c .before .before .before .before .before .before .before .before .before .before .before .before .before .before .before .before .before .before .before .before .before .args .quantities in
     let z = shown (c .before .before .before .before .before .before .before .before .before .before .before .before .before .before .before .before .before .before .before .is-zero .result) (c .before .before .before .before .before .before .before .before .before .before .before .before .before .before .before .before .before .before .if1 .left) (rw (c .before .before .before .before .before .before .before .before .before .before .before .before .before .before .before .before .before .before .before .before .used-by .ensures) at (c .before .before .before .before .before .before .before .before .before .before .before .before .before .before .before .before .before .before .before .is-zero .ensures)) in
-    let ranged = rw (c .before .before .before .before .before .before .before .before .before .before .before .before .before .ranged .given .1, c .before .before .before .before .before .before .before .before .before .before .before .before .before .before .before .before .before .before .before .before .used-by .ensures) at (c .before .before .before .before .before .before .before .before .before .before .before .before .before .before .before .coded .ensures) in
-    let points = c .before .before .before .before .before .before .before .before .before .coded2 .ensures .coded (not-false _ (c .before .before .before .before .before .before .before .if3 .left)) in
-    let r = in-range q z (omega (arith, c .before .before .before .before .before .before .before .before .before .before .before .before .before .before .before .before .if2 .left)) (c .before .before .before .before .before .before .before .before .before .before .before .before .before .ranged .given .0 .0) ranged (c .before .before .before .before .before .before .before .before .before .coded2 .result) points in
-    let sized = rw (c .before .before .before .before .sizes .given .1) at (c .before .before .before .before .before .before .coded3 .ensures) in
-    shape-done q (c .before .before .before .before .before .before .before .before .before .before .before .before .before .ranged .given .0 .0) (c .before .before .before .before .sizes .given .0 .0) (c .before .before .before .before .before .before .before .before .before .coded2 .result) (c .before .before .altitude-code .result) (c .before .inner-radius-code .result) r ranged sized points (c .before .before .altitude-code .ensures) (c .before .inner-radius-code .ensures) (c .before .before .before .before .before .before .before .before .before .before .before .before .before .before .before .before .before .before .before .before .before .pre) (c .joined .result) (c .joined .ensures)
+    let ranged = rw (c .before .before .before .before .before .before .before .before .before .before .before .before .before .ranged .given .1, c .before .before .before .before .before .before .before .before .before .before .before .before .before .before .before .before .before .before .before .before .used-by .ensures) at (c .before .before .before .before .before .before .before .before .before .before .before .before .before .before .before .code-ranges .ensures) in
+    let points = c .before .before .before .before .before .before .before .before .before .code-points .ensures .coded (not-false _ (c .before .before .before .before .before .before .before .if3 .left)) in
+    let r = in-range q z (omega (arith, c .before .before .before .before .before .before .before .before .before .before .before .before .before .before .before .before .if2 .left)) (c .before .before .before .before .before .before .before .before .before .before .before .before .before .ranged .given .0 .0) ranged (c .before .before .before .before .before .before .before .before .before .code-points .result) points in
+    let sized = rw (c .before .before .before .before .sizes .given .1) at (c .before .before .before .before .before .before .code-sizes .ensures) in
+    shape-done q (c .before .before .before .before .before .before .before .before .before .before .before .before .before .ranged .given .0 .0) (c .before .before .before .before .sizes .given .0 .0) (c .before .before .before .before .before .before .before .before .before .code-points .result) (c .before .before .altitude-code .result) (c .before .inner-radius-code .result) r ranged sized points (c .before .before .altitude-code .ensures) (c .before .inner-radius-code .ensures) (c .before .before .before .before .before .before .before .before .before .before .before .before .before .before .before .before .before .before .before .before .before .pre) (c .joined .result) (c .joined .ensures)
 
 pub coded-spec : {M : Type 1} → statement M
 coded-spec =
@@ -108,15 +108,15 @@ coded-spec =
     returns
     refused-requires-2
     returns-2
-    coded-requires
+    code-ranges-requires
     enum-known-ranged
     enum-told
     refused-requires-3
     returns-3
-    coded-requires-2
+    code-points-requires
     refused-requires-4
     returns-4
-    coded-requires-3
+    code-sizes-requires
     enum-known-sizes
     enum-told-2
     refused-requires-5

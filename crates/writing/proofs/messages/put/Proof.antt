@@ -10,7 +10,7 @@ use denote.Ref.{now}
 use Rattle.layout.specs.Shapes.{rowsOf, valueOf}
 use Rattle.octets.specs.Codes.{position}
 use Rattle.writing.specs.Storing.{positions, restOf}
-use Rattle.writing.proofs.LimitLaws.{points-within}
+use Rattle.limits.proofs.LimitLaws.{points-within}
 use Rattle.writing.proofs.StoreLaws.{run-stored, start-within, start-room, fixed-message, points-message, polygon-room, count-most}
 use types.Run.{miss}
 use Rattle.writing.proofs.messages.put.Statement.{statement}

@@ -1,0 +1,27 @@
+-- A velocity's text over the layout table's rows is that of its parts, in the order in which they are put. Assumes nothing.
+use mathlib.Core.Path.{_≡_, ap}
+use mathlib.Core.List.{List, _++_, append-assoc, append-nil}
+use Prim.Native.Nat.{ℕ}
+use native.Mathlib.Omega.{arith}
+use Rattle.fields.specs.Fields as field
+use Rattle.layout.specs.declared.velocities.VelocityKind.{VelocityKind}
+use Rattle.layout.specs.declared.velocities.VelocityKind.the-variants as velocity
+use Rattle.layout.specs.declared.velocities.Velocity.{Velocity}
+use Rattle.layout.specs.Layout.{velocityRows, velocityTypeOf}
+use Rattle.layout.specs.Demands.{Listed}
+use Rattle.quantities.specs.Velocities.{velocityCodeAt}
+use Rattle.words.specs.Words.{rowsText, headText, codeText}
+use Rattle.courses.specs.Courses.{velocityText, motionRest}
+
+module _ (x : Velocity) where
+  motion-rows : (k : VelocityKind) → Listed (velocityRows k) → codeText field.bearing (x .bearing) ++ (codeText field.horizontalSpeed (x .«horizontal_speed») ++ motionRest k x) ≡ rowsText (velocityCodeAt x) 0 (velocityRows k)
+  unfolding codeText
+  motion-rows velocity.Nothing l = absurd (omega arith)
+  motion-rows velocity.Horizontal l = simp append-nil
+  motion-rows velocity.HorizontalVertical l = simp append-nil
+  motion-rows velocity.HorizontalUncertain l = simp append-nil
+  motion-rows velocity.HorizontalVerticalUncertain l = simp (append-assoc, append-nil)
+
+  pub motion-text : Listed (velocityRows (x .kind)) → headText (velocityTypeOf (x .kind)) ++ (codeText field.bearing (x .bearing) ++ (codeText field.horizontalSpeed (x .«horizontal_speed») ++ motionRest (x .kind) x)) ≡ velocityText x
+  unfolding headText velocityText
+  motion-text l = ap (λ (t : List ℕ). headText (velocityTypeOf (x .kind)) ++ t) (motion-rows (x .kind) l)

@@ -1,0 +1,74 @@
+// The text of a velocity that the writer takes, put into a lent buffer: document 01, "The lister".
+use ground::UncertaintySpeed;
+use ground::UncertaintySpeedCode;
+use ground::Whole;
+use layout::Velocity;
+use layout::VelocityKind;
+ghost use mathlib.Core.Path.{_≡_};
+ghost use Prim.Native.Nat.{_+_, _≤_};
+ghost use lib.ListN.{length};
+ghost use Rattle.text.specs.Text.{PutsWithin};
+ghost use Rattle.fields.specs.Fields as field;
+ghost use Rattle.layout.specs.Layout.{velocityTypeOf};
+ghost use Rattle.quantities.specs.Velocities.{TakesVelocity};
+ghost use Rattle.words.specs.Words.{codeText};
+ghost use Rattle.courses.specs.Courses.{velocityText, motionRest};
+
+pub fn put_velocity(out: &mut [u8], at: usize, velocity: Velocity) -> usize
+    requires { ⌜ at + 680 ≤ length (now out) ⌝ }
+    requires { ⌜ TakesVelocity velocity ⌝ }
+    ensures { λ r. ⌜ PutsWithin 680 (now (out .entry)) at (velocityText velocity) (now (out .exit)) r ⌝ }
+{
+    let kind = velocity.kind;
+    let a = words::put_head(out, at, type_number(kind));
+    let b = words::put_natural(out, a, spoken::bearing(velocity.bearing).0);
+    let c = words::put_natural(
+        out,
+        b,
+        speeds::reported_horizontal_speed(velocity.horizontal_speed).0,
+    );
+    put_rest(out, c, velocity)
+}
+
+fn type_number(kind: VelocityKind) -> u8
+    ensures { λ r. ⌜ r ≡ velocityTypeOf kind ⌝ }
+{
+    match kind {
+        VelocityKind::Nothing => 0,
+        VelocityKind::Horizontal => 0,
+        VelocityKind::HorizontalVertical => 1,
+        VelocityKind::HorizontalUncertain => 2,
+        VelocityKind::HorizontalVerticalUncertain => 3,
+    }
+}
+
+// Puts what the kind has after the bearing and the horizontal speed.
+fn put_rest(out: &mut [u8], at: usize, velocity: Velocity) -> usize
+    requires { ⌜ at + 63 ≤ length (now out) ⌝ }
+    ensures { λ r. ⌜ PutsWithin 63 (now (out .entry)) at (motionRest (velocity .kind) velocity) (now (out .exit)) r ⌝ }
+{
+    let kind = velocity.kind;
+    let vertical = Whole(speeds::reported_vertical_speed(velocity.vertical_speed).0 as i64);
+    match kind {
+        VelocityKind::Nothing => at,
+        VelocityKind::Horizontal => at,
+        VelocityKind::HorizontalVertical => words::put_signed(out, at, vertical),
+        VelocityKind::HorizontalUncertain => put_uncertainty(out, at, velocity.uncertainty),
+        VelocityKind::HorizontalVerticalUncertain => {
+            let a = words::put_signed(out, at, vertical);
+            let b = put_uncertainty(out, a, velocity.uncertainty);
+            put_uncertainty(out, b, velocity.vertical_uncertainty)
+        }
+    }
+}
+
+// Puts what is reported of the code, or the mark of a missing quantity.
+fn put_uncertainty(out: &mut [u8], at: usize, code: UncertaintySpeedCode) -> usize
+    requires { ⌜ at + 21 ≤ length (now out) ⌝ }
+    ensures { λ r. ⌜ PutsWithin 21 (now (out .entry)) at (codeText field.uncertaintySpeed code) (now (out .exit)) r ⌝ }
+{
+    match speeds::reported_uncertainty_speed(code) {
+        UncertaintySpeed::Speed(speed) => words::put_natural(out, at, speed.0),
+        UncertaintySpeed::Missing => text::put_bytes(out, at, b" -"),
+    }
+}

@@ -1,0 +1,13 @@
+// The codes of a shape's quantities, group by group: those that have a range, the uncertainties, a polygon's points.
+mod points;
+mod ranges;
+mod sizes;
+
+pub use points::Points;
+pub use points::code_points;
+pub use ranges::Ranged;
+pub use ranges::RangedCoded;
+pub use ranges::code_ranges;
+pub use sizes::Sizes;
+pub use sizes::SizesCoded;
+pub use sizes::code_sizes;

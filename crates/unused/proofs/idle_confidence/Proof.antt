@@ -1,0 +1,24 @@
+-- What is used may be any confidence; one that isn't is missing.
+use borrow.Author.Needs.{needs}
+use Rattle.quantities.proofs.TestLaws.{never}
+use Rattle.unused.proofs.TestLaws.{no-confidence}
+use Rattle.unused.proofs.idle_confidence.Statement.{statement}
+use Rattle.unused.proofs.idle_confidence.Tie as tie
+
+returns : tie.Need-returns
+returns c = never (c .if1 .taken)
+
+enum-told : tie.Need-enum-told
+enum-told c = search needs
+
+enum-told-2 : tie.Need-enum-told-2
+enum-told-2 c = search needs
+
+returns-2 : tie.Need-returns-2
+returns-2 c = no-confidence (c .before .before .if1 .left) (c .before .before .before .args .confidence) (c .enum-told .given .0 .0) (c .enum-told .given .1)
+
+returns-3 : tie.Need-returns-3
+returns-3 c = search needs
+
+pub idle-confidence-spec : {M : Type 1} → statement M
+idle-confidence-spec = tie.close (tie.spec returns enum-told enum-told-2 returns-2 returns-3)
