@@ -1,0 +1,23 @@
+// How many figures were compared.
+ghost use Rattle.figures.specs.Counting.{Room, After};
+
+pub struct Tally {
+    pub figures: u64,
+    pub differences: u64,
+}
+
+pub fn counted(tally: Tally, agrees: bool) -> Tally
+    requires { ⌜ Room 1 tally ⌝ }
+    ensures { λ r. ⌜ After 1 tally r ⌝ }
+{
+    if agrees {
+        return Tally {
+            figures: tally.figures + 1,
+            differences: tally.differences,
+        };
+    }
+    Tally {
+        figures: tally.figures + 1,
+        differences: tally.differences + 1,
+    }
+}
