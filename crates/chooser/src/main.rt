@@ -94,12 +94,19 @@ fn answer_lines(
     output
 }
 
+// Takes the receiver's list, and answers every line after it.
+fn answer_input(out: &mut [u8; 4096], line: &mut [u8; 4096], block: &mut [u8; 65536]) -> Output
+    ensures { λ r. ⌜ SoundOutput r ⌝ }
+{
+    let first = streaming::next_line(line, block, streaming::no_input());
+    let list = list_held(line, first.used);
+    answer_lines(out, line, block, first, list)
+}
+
 fn main() {
     let mut out = io::buffer();
     let mut line = io::buffer();
     let mut block = io::large_buffer();
-    let first = streaming::next_line(&mut line, &mut block, streaming::no_input());
-    let list = list_held(&line, first.used);
-    let output = answer_lines(&mut out, &mut line, &mut block, first, list);
+    let output = answer_input(&mut out, &mut line, &mut block);
     streaming::write_end(&mut out, output);
 }

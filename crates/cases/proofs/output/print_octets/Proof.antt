@@ -3,8 +3,8 @@ use Prim.Native.Nat.{_-_, _≤_}
 use mathlib.Core.Path.{_≡_}
 use borrow.Author.Needs.{needs}
 use lib.ListN.{length}
-use Rattle.messages.proofs.output.print_octets.Statement.{statement}
-use Rattle.messages.proofs.output.print_octets.Tie as tie
+use Rattle.cases.proofs.output.print_octets.Statement.{statement}
+use Rattle.cases.proofs.output.print_octets.Tie as tie
 
 abbrev Inv-loop : tie.InvT-loop
 Inv-loop s i₀ i = i ≤ length s
