@@ -97,8 +97,8 @@ def request_of(line):
 
 
 def list_of(line):
-    n = number(line, 0, 2**16 - 1)
-    return 0 if n is UNREADABLE or len(line) > 4096 else n
+    n = number(line, 0, 2**16 - 1) if len(line) <= 4096 else UNREADABLE
+    return 0 if n is UNREADABLE else n
 
 
 def refused(request):
