@@ -1,12 +1,12 @@
 -- Laws of what a line says. Assumes nothing.
 use mathlib.Core.Path.{_≡_, refl, sym, ap, _∙_, subst}
 use mathlib.Core.Bool.{Bool, true, false}
-use mathlib.Core.List.{List, [], _∷_}
+use mathlib.Core.List.{List}
 use Prim.Native.Nat.{ℕ, _<_, _≤_, _^_}
 use native.Mathlib.Omega.{arith}
 use lib.Dec.{T, eqb}
 use borrow.Author.Tests.{eqb-true, eqb-false}
-use lib.IntN.{ℤ, pos, negsuc}
+use lib.IntN.{ℤ, pos}
 use lib.Signed.{mag}
 use Rattle.ground.specs.declared.quantities.Confidence.{Confidence}
 use Rattle.ground.specs.declared.quantities.Confidence.the-variants as confident
@@ -31,12 +31,9 @@ use Rattle.asking.specs.declared.amounts.Amount.{Amount}
 use Rattle.asking.specs.declared.amounts.Amount.the-variants.{Number, Absent, Unreadable}
 use Rattle.asking.specs.declared.request_lines.Asked.{Asked}
 use Rattle.asking.specs.declared.request_lines.Asked.the-variants as asked
-use Rattle.asking.specs.declared.request_lines.HorizontalRead.{HorizontalRead}
-use Rattle.asking.specs.declared.request_lines.UncertaintyRead.the-variants as uncertainty
-use Rattle.asking.specs.declared.request_lines.ConfidenceRead.the-variants as confidence
 use Rattle.asking.specs.Fields.{fieldAt}
 use Rattle.asking.specs.Asking.{IsAbsent, SaysSigned, SaysUnsigned, SaysAltitude, SaysHorizontal, SaysUncertainty, SaysConfidence, Says, Asks, SaysList, ListIn}
-use Rattle.asking.specs.Reading.{ReadsAmount, ReadsHorizontal, ReadsUncertainty, ReadsConfidence, areaOf, noAreaOf, horizontalOf}
+use Rattle.asking.specs.Reading.{ReadsAmount, ReadsHorizontal, areaOf, noAreaOf, horizontalOf}
 
 -- ---- a field says one thing
 

@@ -73,9 +73,6 @@ module _ {line : List ℕ} {from r : ℕ} (m : FirstMark 32 line from r) where
 
 -- ---- the places of fields
 
-pub start-first : (line : List ℕ) → Starts line 0 0
-start-first line = record { inside = omega arith; rest = refl }
-
 module _ {line : List ℕ} {number from r : ℕ} (s : Starts line number from) (m : FirstMark 32 line from r) where
   pub ends-inside : suc number < length (fieldsOf line) → r < length line
   ends-inside more =

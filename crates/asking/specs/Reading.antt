@@ -1,5 +1,4 @@
 -- What is read from the fields of a request. Assumes nothing.
-use mathlib.Core.Path.{_≡_}
 use mathlib.Core.List.{List}
 use Prim.Native.Nat.{ℕ}
 use Rattle.ground.specs.declared.quantities.Confidence.{Confidence}

@@ -32,10 +32,10 @@ fn put_chosen(out: &mut [u8; 4096], at: usize, number: u64, asked: Asked, list: 
     requires { ⌜ at + 65 ≤ 4096 ⌝ }
     ensures { λ r. ⌜ r ≤ 4096 ⌝ }
 {
-    let mut message = [0; 14];
     let Asked::Request(request) = asked else {
-        return asking::put_answer(out, at, number, Answer::Unreadable, &message);
+        return asking::put_answer(out, at, number, Answer::Unreadable, b"");
     };
+    let mut message = [0; 14];
     let written = choice::choose(&mut message, request, list);
     let outcome = written.outcome;
     let length = written.length;

@@ -1,5 +1,4 @@
 // Answers, written to standard output when there is no room for one more, and the last line.
-ghost use mathlib.Core.Path.{_≡_};
 ghost use Prim.Native.Nat.{_+_, _≤_};
 ghost use lib.ListN.{length};
 ghost use Rattle.streaming.specs.Streaming.{SoundOutput};

@@ -50,7 +50,6 @@ same-length-2 c = search needs
 returns-2 : tie.Need-returns-2
 unfolding saidText
 returns-2 c =
-    let n = length (c .before .before .before .before .before .before .before .before .before .before .before .before .before .before .before .args .message .now) in
     let most : length (octetsText (c .before .before .before .before .before .before .before .before .before .before .before .before .before .before .before .args .message .now)) ≤ 42 = omega (arith, octets-length (c .before .before .before .before .before .before .before .before .before .before .before .before .before .before .before .args .message .now)) in
     rw (c .before .before .before .before .before .before .before .before .before .before .before .answer .given .1, c .before .before .before .before .before .before .before .before .enum-told2 .given .1) (after (octet-within (c .before .before .before .before .before .before .put-byte2 .ensures)) (within most (c .before .before .put-octets .ensures)))
 

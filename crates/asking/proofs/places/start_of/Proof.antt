@@ -2,7 +2,7 @@
 use Prim.Native.Nat.{_-_, _≤_}
 use native.Mathlib.Omega.{arith}
 use Rattle.asking.specs.Fields.{Starts}
-use Rattle.asking.proofs.FieldLaws.{start-first, start-next, ends-inside}
+use Rattle.asking.proofs.FieldLaws.{start-next, ends-inside}
 use mathlib.Core.Path.{_≡_}
 use borrow.Author.Needs.{needs}
 use Rattle.asking.proofs.places.start_of.Statement.{statement}
