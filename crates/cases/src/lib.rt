@@ -1,7 +1,8 @@
-// What the test programs share: octets as hexadecimal digits, and the numbers of a line. Nothing of the product stands on
-// it.
+// What the test programs share: octets as hexadecimal digits, the numbers of a line, and the parts of an answer. Nothing of
+// the product stands on it.
 mod hex;
 mod numbers;
+mod output;
 
 pub use hex::octets_in;
 pub use numbers::natural;
@@ -9,3 +10,6 @@ pub use numbers::numbers_in;
 pub use numbers::octet;
 pub use numbers::room;
 pub use numbers::word;
+pub use output::print_number;
+pub use output::print_octets;
+pub use output::print_outcome;

@@ -1,5 +1,4 @@
 // Cases of shapes.
-use crate::output;
 use ground::AltitudeCode;
 use ground::AltitudeUncertaintyCode;
 use ground::ConfidenceCode;
@@ -19,10 +18,10 @@ pub fn print_read(digits: &[u8]) {
     let n = cases::octets_in(&mut octets, digits);
     let read = reading::read_shape(&octets[0..n]);
     let outcome = read.outcome;
-    output::print_outcome(outcome);
+    cases::print_outcome(outcome);
     let again = writing::write_shape(&mut octets, read.shape).length;
     if again <= 128 {
-        output::print_octets(&octets[0..again]);
+        cases::print_octets(&octets[0..again]);
     }
 }
 
@@ -37,9 +36,9 @@ pub fn print_written(codes: &[u8]) {
 fn print_into(buffer: &mut [u8], shape: Shape) {
     let written = writing::write_shape(buffer, shape);
     let outcome = written.outcome;
-    output::print_outcome(outcome);
-    output::print_number(written.length as u64);
-    output::print_octets(buffer);
+    cases::print_outcome(outcome);
+    cases::print_number(written.length as u64);
+    cases::print_octets(buffer);
 }
 
 fn kind_of(number: u8) -> Kind {

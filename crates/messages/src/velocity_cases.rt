@@ -1,5 +1,4 @@
 // Cases of velocities.
-use crate::output;
 use ground::BearingCode;
 use ground::HorizontalSpeedCode;
 use ground::UncertaintySpeedCode;
@@ -13,10 +12,10 @@ pub fn print_read(digits: &[u8]) {
     let n = cases::octets_in(&mut octets, digits);
     let read = velocities::read_velocity(&octets[0..n]);
     let outcome = read.outcome;
-    output::print_outcome(outcome);
+    cases::print_outcome(outcome);
     let again = velocities::write_velocity(&mut octets, read.velocity).length;
     if again <= 128 {
-        output::print_octets(&octets[0..again]);
+        cases::print_octets(&octets[0..again]);
     }
 }
 
@@ -31,9 +30,9 @@ pub fn print_written(codes: &[u8]) {
 fn print_into(buffer: &mut [u8], velocity: Velocity) {
     let written = velocities::write_velocity(buffer, velocity);
     let outcome = written.outcome;
-    output::print_outcome(outcome);
-    output::print_number(written.length as u64);
-    output::print_octets(buffer);
+    cases::print_outcome(outcome);
+    cases::print_number(written.length as u64);
+    cases::print_octets(buffer);
 }
 
 fn kind_of(number: u8) -> VelocityKind {

@@ -1,0 +1,209 @@
+-- Laws of what a line says. Assumes nothing.
+use mathlib.Core.Path.{_≡_, refl, sym, ap, _∙_, subst}
+use mathlib.Core.Bool.{Bool, true, false}
+use mathlib.Core.List.{List}
+use Prim.Native.Nat.{ℕ, _<_, _≤_, _^_}
+use native.Mathlib.Omega.{arith}
+use lib.Dec.{T, eqb}
+use borrow.Author.Tests.{eqb-true, eqb-false}
+use lib.IntN.{ℤ, pos}
+use lib.Signed.{mag}
+use Rattle.ground.specs.declared.quantities.Confidence.{Confidence}
+use Rattle.ground.specs.declared.quantities.Confidence.the-variants as confident
+use Rattle.numerals.specs.Numerals.{numeralOf, digitsOf}
+use Rattle.numerals.specs.Widths.{Means, FitsSigned, AsSigned64, AsSigned32, AsUnsigned32}
+use Rattle.numerals.specs.declared.numerals.Numeral.{Numeral}
+use Rattle.numerals.specs.declared.widths.Signed64.{Signed64}
+use Rattle.numerals.specs.declared.widths.Signed64.the-variants as s64
+use Rattle.numerals.specs.declared.widths.Signed32.{Signed32}
+use Rattle.numerals.specs.declared.widths.Signed32.the-variants as s32
+use Rattle.numerals.specs.declared.widths.Unsigned32.{Unsigned32}
+use Rattle.numerals.specs.declared.widths.Unsigned32.the-variants as u32
+use Rattle.numerals.proofs.WidthLaws.{means-one, no-number}
+use Rattle.requests.specs.declared.Request.{Request}
+use Rattle.requests.specs.declared.Altitude.{Altitude}
+use Rattle.requests.specs.declared.Altitude.the-variants as level
+use Rattle.requests.specs.declared.Horizontal.{Horizontal}
+use Rattle.requests.specs.declared.Horizontal.the-variants as horizontal
+use Rattle.requests.specs.declared.AltitudeUncertainty.{AltitudeUncertainty}
+use Rattle.requests.specs.declared.AltitudeUncertainty.the-variants as height
+use Rattle.asking.specs.declared.amounts.Amount.{Amount}
+use Rattle.asking.specs.declared.amounts.Amount.the-variants.{Number, Absent, Unreadable}
+use Rattle.asking.specs.declared.request_lines.Asked.{Asked}
+use Rattle.asking.specs.declared.request_lines.Asked.the-variants as asked
+use Rattle.asking.specs.Fields.{fieldAt}
+use Rattle.asking.specs.Asking.{IsAbsent, SaysSigned, SaysUnsigned, SaysAltitude, SaysHorizontal, SaysUncertainty, SaysConfidence, Says, Asks, SaysList, ListIn}
+use Rattle.asking.specs.Reading.{ReadsAmount, ReadsHorizontal, areaOf, noAreaOf, horizontalOf}
+
+-- ---- a field says one thing
+
+-- a dash is no number
+dash-is-none : {f : List ℕ} {z : ℤ} → IsAbsent f → Means (numeralOf f) z → ⊥
+unfolding numeralOf digitsOf
+dash-is-none {f} {z} e m = no-number refl (subst (λ (s : List ℕ). Means (numeralOf s) z) e m)
+
+signed-one : {b : ℕ} {f : List ℕ} {x y : ℤ} → SaysSigned b f x → SaysSigned b f y → x ≡ y
+signed-one s t = means-one (s .means) (t .means)
+
+unsigned-one : {f : List ℕ} {x y : ℕ} → SaysUnsigned f x → SaysUnsigned f y → x ≡ y
+unsigned-one s t = ap mag (means-one (s .means) (t .means))
+
+unsigned-dash : {f : List ℕ} {x : ℕ} → SaysUnsigned f x → IsAbsent f → ⊥
+unsigned-dash s e = dash-is-none e (s .means)
+
+-- ---- a field that was read
+
+pub not-same : {P : Type 0} {t : Bool} → (P → t ≡ true) → t ≡ false → P → ⊥
+not-same f e p = subst T (sym (f p) ∙ e) tt
+
+module _ {n : Numeral} (f : List ℕ) (e : n ≡ numeralOf f) where
+  pub unsigned-says : {r : Unsigned32} {x : ℕ} → r ≡ u32.Number x → AsUnsigned32 n r → SaysUnsigned f x
+  unsigned-says g a = let b = subst (λ (t : Unsigned32). AsUnsigned32 n t) g a in record { means = rw e at (b .0); fits = b .1 }
+
+  pub unsigned-none : {r : Unsigned32} → r ≡ u32.Outside → AsUnsigned32 n r → (x : ℕ) → Means (numeralOf f) (pos x) → x < 2 ^ 32 → ⊥
+  unsigned-none g a x m h = subst (λ (t : Unsigned32). AsUnsigned32 n t) g a x (rw (← e) at m) h
+
+  pub signed-says : {r : Signed32} {z : ℤ} → r ≡ s32.Number z → AsSigned32 n r → SaysSigned 32 f z
+  signed-says g a = let b = subst (λ (t : Signed32). AsSigned32 n t) g a in record { means = rw e at (b .0); fits = b .1 }
+
+  pub signed-none : {r : Signed32} → r ≡ s32.Outside → AsSigned32 n r → (z : ℤ) → Means (numeralOf f) z → FitsSigned 32 z → ⊥
+  signed-none g a z m h = subst (λ (t : Signed32). AsSigned32 n t) g a z (rw (← e) at m) h
+
+pub unsigned-unread : {f : List ℕ} → ((x : ℕ) → Means (numeralOf f) (pos x) → x < 2 ^ 32 → ⊥) → (x : ℕ) → SaysUnsigned f x → ⊥
+unsigned-unread n x s = n x (s .means) (s .fits)
+
+module _ (f : List ℕ) {r : Signed64} (a : AsSigned64 (numeralOf f) r) where
+  pub coordinate-says : {z : ℤ} → r ≡ s64.Number z → SaysSigned 64 f z
+  coordinate-says g = let b = subst (λ (t : Signed64). AsSigned64 (numeralOf f) t) g a in record { means = b .0; fits = b .1 }
+
+  pub no-coordinate : r ≡ s64.Outside → {z : ℤ} → SaysSigned 64 f z → ⊥
+  no-coordinate g {z} s = subst (λ (t : Signed64). AsSigned64 (numeralOf f) t) g a z (s .means) (s .fits)
+
+-- ---- the horizontal uncertainty
+
+module _ (f g h : List ℕ) where
+  -- no circle, no ellipse, and not none
+  refuted : ((R : ℕ) → SaysUnsigned f R → IsAbsent g → IsAbsent h → ⊥) → ((R S a : ℕ) → SaysUnsigned f R → SaysUnsigned g S → SaysUnsigned h a → ⊥) → (IsAbsent f → IsAbsent g → IsAbsent h → ⊥)
+      → (x : Horizontal) → SaysHorizontal f g h x → ⊥
+  refuted c e n (horizontal.Circle R) s = c (R .0) (s .0) (s .1) (s .2)
+  refuted c e n (horizontal.Ellipse R S a) s = e (R .0) (S .0) (a .0) (s .0) (s .1) (s .2)
+  refuted c e n horizontal.NotAsked s = n (s .0) (s .1) (s .2)
+
+  area-reads : {R : ℕ} (S a : Amount) → SaysUnsigned f R → ReadsAmount g S → ReadsAmount h a → ReadsHorizontal f g h (areaOf (record { 0 = R }) S a)
+  area-reads (Number S) (Number a) p q r = (p, q, r)
+  area-reads (Number S) Absent p q r = refuted (λ R u v w. unsigned-dash q v) (λ R S a u v w. unsigned-dash w r) (λ u v w. unsigned-dash p u)
+  area-reads (Number S) Unreadable p q r = refuted (λ R u v w. unsigned-dash q v) (λ R S a u v w. r .1 a w) (λ u v w. unsigned-dash p u)
+  area-reads Absent (Number a) p q r = refuted (λ R u v w. unsigned-dash r w) (λ R S a u v w. unsigned-dash v q) (λ u v w. unsigned-dash p u)
+  area-reads Absent Absent p q r = (p, q, r)
+  area-reads Absent Unreadable p q r = refuted (λ R u v w. r .0 w) (λ R S a u v w. unsigned-dash v q) (λ u v w. unsigned-dash p u)
+  area-reads Unreadable a p q r = refuted (λ R u v w. q .0 v) (λ R S a u v w. q .1 S v) (λ u v w. q .0 v)
+
+  no-area-reads : (S a : Amount) → IsAbsent f → ReadsAmount g S → ReadsAmount h a → ReadsHorizontal f g h (noAreaOf S a)
+  no-area-reads (Number S) a p q r = refuted (λ R u v w. unsigned-dash u p) (λ R S a u v w. unsigned-dash u p) (λ u v w. unsigned-dash q v)
+  no-area-reads Absent (Number a) p q r = refuted (λ R u v w. unsigned-dash u p) (λ R S a u v w. unsigned-dash u p) (λ u v w. unsigned-dash r w)
+  no-area-reads Absent Absent p q r = (p, q, r)
+  no-area-reads Absent Unreadable p q r = refuted (λ R u v w. unsigned-dash u p) (λ R S a u v w. unsigned-dash u p) (λ u v w. r .0 w)
+  no-area-reads Unreadable a p q r = refuted (λ R u v w. unsigned-dash u p) (λ R S a u v w. unsigned-dash u p) (λ u v w. q .0 v)
+
+  pub horizontal-reads : (R S a : Amount) → ReadsAmount f R → ReadsAmount g S → ReadsAmount h a → ReadsHorizontal f g h (horizontalOf R S a)
+  horizontal-reads (Number R) S a p q r = area-reads S a p q r
+  horizontal-reads Absent S a p q r = no-area-reads S a p q r
+  horizontal-reads Unreadable S a p q r = refuted (λ R u v w. p .1 R u) (λ R S a u v w. p .1 R u) (λ u v w. p .0 u)
+
+-- ---- the altitude, its uncertainty, the confidence
+
+pub no-altitude : (f : List ℕ) → (IsAbsent f → ⊥) → ((z : ℤ) → Means (numeralOf f) z → FitsSigned 32 z → ⊥) → (a : Altitude) → SaysAltitude f a → ⊥
+no-altitude f d n (level.Asked a) s = n (a .0) (s .means) (s .fits)
+no-altitude f d n level.NotAsked s = d s
+
+pub no-uncertainty : {f : List ℕ} → ReadsAmount f Unreadable → (a : AltitudeUncertainty) → SaysUncertainty f a → ⊥
+no-uncertainty n (height.Asked R) s = n .1 (R .0) s
+no-uncertainty n height.NotAsked s = n .0 s
+
+pub no-confidence : {f : List ℕ} → ReadsAmount f Unreadable → (a : Confidence) → SaysConfidence f a → ⊥
+no-confidence n (confident.PerCent m) s = n .1 m s
+no-confidence n confident.Missing s = n .0 s
+
+-- ---- the list
+
+module _ {line : List ℕ} {x : ℕ} (m : Means (numeralOf line) (pos x)) where
+  pub list-written : x < 2 ^ 16 → ListIn line x
+  list-written h =
+      record {
+        written = λ y s. ap mag (means-one m (s .means));
+        empty = λ none. absurd (none x (record { means = m; fits = h }));
+      }
+
+  pub list-too-large : 2 ^ 16 ≤ x → ListIn line 0
+  list-too-large h =
+      record {
+        written = λ y s. let e : x ≡ y = ap mag (means-one m (s .means)) in absurd (omega (arith, s .fits));
+        empty = λ none. refl;
+      }
+
+pub list-none : {line : List ℕ} → ((x : ℕ) → Means (numeralOf line) (pos x) → x < 2 ^ 32 → ⊥) → ListIn line 0
+list-none n =
+    record {
+      written = λ y s. absurd (n y (s .means) (omega (arith, s .fits)));
+      empty = λ none. refl;
+    }
+
+-- ---- one answer
+
+list-by : {line : List ℕ} {x y : ℕ} (t : Bool) → eqb x y ≡ t → ListIn line x → ListIn line y → x ≡ y
+list-by {x = x} {y} true e a b = eqb-true x y e
+list-by {line} {x} {y} false e a b =
+    let none : (n : ℕ) → SaysList line n → ⊥ = λ n s. eqb-false x y e (a .written n s ∙ sym (b .written n s)) in
+    a .empty none ∙ sym (b .empty none)
+
+-- were there two lists, the line would write neither, and both would be empty
+pub list-one : {line : List ℕ} {x y : ℕ} → ListIn line x → ListIn line y → x ≡ y
+list-one {x = x} {y} a b = list-by (eqb x y) refl a b
+
+altitude-one : (f : List ℕ) (a b : Altitude) → SaysAltitude f a → SaysAltitude f b → a ≡ b
+altitude-one f (level.Asked a) (level.Asked b) s t = ap (λ (z : ℤ). level.Asked (record { 0 = z })) (signed-one s t)
+altitude-one f (level.Asked a) level.NotAsked s t = absurd (dash-is-none t (s .means))
+altitude-one f level.NotAsked (level.Asked b) s t = absurd (dash-is-none s (t .means))
+altitude-one f level.NotAsked level.NotAsked s t = refl
+
+horizontal-one : (f g h : List ℕ) (a b : Horizontal) → SaysHorizontal f g h a → SaysHorizontal f g h b → a ≡ b
+horizontal-one f g h (horizontal.Circle R) (horizontal.Circle Q) s t = ap (λ (n : ℕ). horizontal.Circle (record { 0 = n })) (unsigned-one (s .0) (t .0))
+horizontal-one f g h (horizontal.Circle R) (horizontal.Ellipse Q S a) s t = absurd (unsigned-dash (t .1) (s .1))
+horizontal-one f g h (horizontal.Circle R) horizontal.NotAsked s t = absurd (unsigned-dash (s .0) (t .0))
+horizontal-one f g h (horizontal.Ellipse R S a) (horizontal.Circle Q) s t = absurd (unsigned-dash (s .1) (t .1))
+horizontal-one f g h (horizontal.Ellipse R S a) (horizontal.Ellipse Q P b) s t =
+    λ i. horizontal.Ellipse (record { 0 = unsigned-one (s .0) (t .0) i }) (record { 0 = unsigned-one (s .1) (t .1) i }) (record { 0 = unsigned-one (s .2) (t .2) i })
+horizontal-one f g h (horizontal.Ellipse R S a) horizontal.NotAsked s t = absurd (unsigned-dash (s .0) (t .0))
+horizontal-one f g h horizontal.NotAsked (horizontal.Circle Q) s t = absurd (unsigned-dash (t .0) (s .0))
+horizontal-one f g h horizontal.NotAsked (horizontal.Ellipse Q P b) s t = absurd (unsigned-dash (t .0) (s .0))
+horizontal-one f g h horizontal.NotAsked horizontal.NotAsked s t = refl
+
+uncertainty-one : (f : List ℕ) (a b : AltitudeUncertainty) → SaysUncertainty f a → SaysUncertainty f b → a ≡ b
+uncertainty-one f (height.Asked R) (height.Asked Q) s t = ap (λ (n : ℕ). height.Asked (record { 0 = n })) (unsigned-one s t)
+uncertainty-one f (height.Asked R) height.NotAsked s t = absurd (unsigned-dash s t)
+uncertainty-one f height.NotAsked (height.Asked Q) s t = absurd (unsigned-dash t s)
+uncertainty-one f height.NotAsked height.NotAsked s t = refl
+
+confidence-one : (f : List ℕ) (a b : Confidence) → SaysConfidence f a → SaysConfidence f b → a ≡ b
+confidence-one f (confident.PerCent m) (confident.PerCent n) s t = ap confident.PerCent (unsigned-one s t)
+confidence-one f (confident.PerCent m) confident.Missing s t = absurd (unsigned-dash s t)
+confidence-one f confident.Missing (confident.PerCent n) s t = absurd (unsigned-dash t s)
+confidence-one f confident.Missing confident.Missing s t = refl
+
+says-one : {line : List ℕ} {p q : Request} → Says line p → Says line q → p ≡ q
+says-one {line} {p} {q} s t =
+    λ i. record {
+      latitude = record { 0 = signed-one (s .latitudes) (t .latitudes) i };
+      longitude = record { 0 = signed-one (s .longitudes) (t .longitudes) i };
+      altitude = altitude-one (fieldAt line 2) (p .altitude) (q .altitude) (s .altitudes) (t .altitudes) i;
+      horizontal = horizontal-one (fieldAt line 3) (fieldAt line 4) (fieldAt line 5) (p .horizontal) (q .horizontal) (s .areas) (t .areas) i;
+      «altitude_uncertainty» = uncertainty-one (fieldAt line 6) (p .«altitude_uncertainty») (q .«altitude_uncertainty») (s .heights) (t .heights) i;
+      confidence = confidence-one (fieldAt line 7) (p .confidence) (q .confidence) (s .confidences) (t .confidences) i;
+    }
+
+-- a line asks for one thing
+pub asks-one : (line : List ℕ) (a b : Asked) → Asks line a → Asks line b → a ≡ b
+asks-one line (asked.Request p) (asked.Request q) s t = ap asked.Request (says-one s t)
+asks-one line (asked.Request p) asked.Unreadable s t = absurd (t p s)
+asks-one line asked.Unreadable (asked.Request q) s t = absurd (s q t)
+asks-one line asked.Unreadable asked.Unreadable s t = refl

@@ -1,0 +1,3 @@
+pub mod FieldLaws
+pub mod AskingLaws
+pub mod AnswerLaws

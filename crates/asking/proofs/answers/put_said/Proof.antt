@@ -1,0 +1,83 @@
+-- By the answer: a dash, 0 and the octets, or the refusal's number.
+use Prim.Native.Nat.{_≤_}
+use lib.ListN.{length}
+use native.Mathlib.Omega.{arith}
+use Rattle.text.proofs.OutputLaws.{decimal-most}
+use Rattle.text.proofs.WithinLaws.{within, octet-within, decimal-within, after, fewer}
+use Rattle.asking.specs.Answers.{saidText, octetsText}
+use Rattle.asking.proofs.AnswerLaws.{octets-length}
+use borrow.Author.Needs.{needs}
+use Rattle.asking.proofs.answers.put_said.Statement.{statement}
+use Rattle.asking.proofs.answers.put_said.Tie as tie
+
+enum-known-answer : tie.Need-enum-known-answer
+enum-known-answer c = search needs
+
+enum-told : tie.Need-enum-told
+enum-told c = search needs
+
+put-byte-requires : tie.Need-put-byte-requires
+put-byte-requires c κs = search needs
+
+same-length : tie.Need-same-length
+same-length c = search needs
+
+returns : tie.Need-returns
+unfolding saidText
+returns c = rw (c .before .before .before .before .enum-told .given .1) (within (omega arith) (c .before .before .put-byte .ensures))
+
+enum-told-2 : tie.Need-enum-told-2
+enum-told-2 c = search needs
+
+put-byte-requires-2 : tie.Need-put-byte-requires-2
+put-byte-requires-2 c κs = search needs
+
+put-octets-requires : tie.Need-put-octets-requires
+put-octets-requires c κs = search needs
+
+enum-known-outcome : tie.Need-enum-known-outcome
+enum-known-outcome c = search needs
+
+refusal-number-requires : tie.Need-refusal-number-requires
+refusal-number-requires c κs = search needs
+
+put-decimal-requires : tie.Need-put-decimal-requires
+put-decimal-requires c κs = omega (arith, decimal-most {n = c .refusal-number .result} (omega arith))
+
+same-length-2 : tie.Need-same-length-2
+same-length-2 c = search needs
+
+returns-2 : tie.Need-returns-2
+unfolding saidText
+returns-2 c =
+    let most : length (octetsText (c .before .before .before .before .before .before .before .before .before .before .before .before .before .before .before .args .message .now)) ≤ 42 = omega (arith, octets-length (c .before .before .before .before .before .before .before .before .before .before .before .before .before .before .before .args .message .now)) in
+    rw (c .before .before .before .before .before .before .before .before .before .before .before .answer .given .1, c .before .before .before .before .before .before .before .before .enum-told2 .given .1) (after (octet-within (c .before .before .before .before .before .before .put-byte2 .ensures)) (within most (c .before .before .put-octets .ensures)))
+
+same-length-3 : tie.Need-same-length-3
+same-length-3 c = search needs
+
+returns-3 : tie.Need-returns-3
+unfolding saidText
+returns-3 c =
+    let p = fewer {n = 43} (omega arith) (decimal-within (omega arith) (c .before .before .put-decimal .ensures)) in
+    rw (c .before .before .before .before .before .before .before .before .before .answer .given .1, c .before .before .before .before .before .before .outcome .given .1, ← c .before .before .before .refusal-number .ensures) p
+
+pub put-said-spec : {M : Type 1} → statement M
+put-said-spec =
+    tie.close
+    (tie.spec
+    enum-known-answer
+    enum-told
+    put-byte-requires
+    same-length
+    returns
+    enum-told-2
+    put-byte-requires-2
+    put-octets-requires
+    enum-known-outcome
+    refusal-number-requires
+    put-decimal-requires
+    same-length-2
+    returns-2
+    same-length-3
+    returns-3)

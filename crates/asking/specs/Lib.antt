@@ -1,0 +1,4 @@
+pub mod Fields
+pub mod Asking
+pub mod Reading
+pub mod Answers

@@ -1,0 +1,54 @@
+-- What is held stays sound; the turns left fall.
+use Rattle.streaming.specs.Streaming.{SoundInput}
+use borrow.Author.Needs.{needs}
+use Rattle.streaming.proofs.input.next_line.Statement.{statement}
+use Rattle.streaming.proofs.input.next_line.Tie as tie
+
+abbrev Inv-loop : tie.InvT-loop
+Inv-loop line₀ block₀ input₀ turns₀ line block input turns = SoundInput input
+
+abbrev μ-loop : tie.MeasureT-loop
+μ-loop line₀ block₀ input₀ turns₀ line block input turns = turns
+
+loop-holds : tie.Need-loop-holds Inv-loop μ-loop
+loop-holds c = search needs
+
+filled-requires : tie.Need-filled-requires Inv-loop μ-loop
+filled-requires c κs = search needs
+
+returns : tie.Need-returns Inv-loop μ-loop
+returns c = search needs
+
+take-piece-requires : tie.Need-take-piece-requires Inv-loop μ-loop
+take-piece-requires c κs = search needs
+
+returns-2 : tie.Need-returns-2 Inv-loop μ-loop
+returns-2 c = search needs
+
+sub-turns : tie.Need-sub-turns Inv-loop μ-loop
+sub-turns c = search needs
+
+loop-less : tie.Need-loop-less Inv-loop μ-loop
+loop-less c = search needs
+
+loop-again : tie.Need-loop-again Inv-loop μ-loop
+loop-again c = search needs
+
+returns-3 : tie.Need-returns-3 Inv-loop μ-loop
+returns-3 c = search needs
+
+pub next-line-spec : {M : Type 1} → statement M
+next-line-spec =
+    tie.close
+    (tie.spec
+    Inv-loop
+    μ-loop
+    loop-holds
+    filled-requires
+    returns
+    take-piece-requires
+    returns-2
+    sub-turns
+    loop-less
+    loop-again
+    returns-3)

@@ -1,0 +1,12 @@
+-- What is kept of the input and of the answers. Assumes nothing.
+use Prim.Native.Nat.{_≤_}
+use Rattle.streaming.specs.declared.input.Input.{Input}
+use Rattle.streaming.specs.declared.output.Output.{Output}
+
+pub record SoundInput (i : Input) : Type 0 where
+  pub order : i .taken ≤ i .read
+  pub block : i .read ≤ 65536
+  pub line : i .used ≤ 4097
+
+pub record SoundOutput (o : Output) : Type 0 where
+  pub answers : o .put ≤ 4096
