@@ -4,9 +4,9 @@ use native.Mathlib.Omega.{arith}
 use native.Mathlib.Nat.{add-sub-cancel-left}
 use Rattle.text.proofs.OutputLaws.{none}
 use Rattle.text.proofs.WithinLaws.{within, after, fewer}
-use Rattle.listing.specs.Listing.{textOf}
-use Rattle.listing.proofs.lines.put_step.Statement.{statement}
-use Rattle.listing.proofs.lines.put_step.Tie as tie
+use Rattle.steps.specs.Steps.{textOf}
+use Rattle.steps.proofs.put_step.Statement.{statement}
+use Rattle.steps.proofs.put_step.Tie as tie
 
 add-number : tie.Need-add-number
 add-number c = search needs

@@ -1,11 +1,10 @@
-// The lines of the listing, put into a lent buffer. Each function answers the place after what it put.
+// What is listed for a frame, put into a lent buffer: document 01, "The lister". Each function answers the place after what it put.
 use frames::Frame;
 ghost use Prim.Native.Nat.{_+_, _≤_, _<_, _^_};
 ghost use lib.ListN.{length};
 ghost use Rattle.text.specs.Text.{PutsWithin};
 ghost use Rattle.frames.specs.Frames.{octetsOf};
-ghost use Rattle.listing.specs.Listing.{lineOf, brokenOf, textOf};
-ghost use Rattle.listing.specs.Streaming.{longestStep};
+ghost use Rattle.steps.specs.Steps.{lineOf, brokenOf, textOf, longestStep};
 
 // Puts what is listed for the frame at the start of s, after so many unbroken ones.
 pub fn put_step(out: &mut [u8], at: usize, frame: Frame, s: &[u8], unbroken: u64) -> usize

@@ -3,9 +3,9 @@ use borrow.Author.Needs.{needs}
 use native.Mathlib.Omega.{arith}
 use Rattle.text.proofs.OutputLaws.{decimal-most}
 use Rattle.text.proofs.WithinLaws.{within, decimal-within, after}
-use Rattle.listing.specs.Listing.{brokenOf}
-use Rattle.listing.proofs.lines.put_broken.Statement.{statement}
-use Rattle.listing.proofs.lines.put_broken.Tie as tie
+use Rattle.steps.specs.Steps.{brokenOf}
+use Rattle.steps.proofs.put_broken.Statement.{statement}
+use Rattle.steps.proofs.put_broken.Tie as tie
 
 put-decimal-requires : tie.Need-put-decimal-requires
 put-decimal-requires c κs = omega (arith, decimal-most {n = c .before .before .args .number} (omega arith))

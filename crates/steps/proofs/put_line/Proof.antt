@@ -3,9 +3,9 @@ use borrow.Author.Needs.{needs}
 use native.Mathlib.Omega.{arith}
 use Rattle.text.proofs.OutputLaws.{decimal-most}
 use Rattle.text.proofs.WithinLaws.{octet-within, decimal-within, after, fewer}
-use Rattle.listing.specs.Listing.{lineOf}
-use Rattle.listing.proofs.lines.put_line.Statement.{statement}
-use Rattle.listing.proofs.lines.put_line.Tie as tie
+use Rattle.steps.specs.Steps.{lineOf}
+use Rattle.steps.proofs.put_line.Statement.{statement}
+use Rattle.steps.proofs.put_line.Tie as tie
 
 put-decimal-requires : tie.Need-put-decimal-requires
 put-decimal-requires c κs = omega (arith, decimal-most {n = c .before .before .before .args .number} (omega arith))
