@@ -4,10 +4,10 @@ use mathlib.Core.Path.{refl}
 use native.Mathlib.Omega.{arith}
 use denote.Ref.{now}
 use Rattle.layout.specs.declared.velocities.VelocityKind.the-variants.{Horizontal, HorizontalVertical, HorizontalUncertain, HorizontalVerticalUncertain}
-use Rattle.velocities.proofs.UnusedLaws.{type-lt}
-use Rattle.velocities.proofs.StoreLaws.{bearing-fits, own-room, nothing-stored, horizontal-stored, vertical-stored, uncertain-stored, all-stored}
-use Rattle.velocities.proofs.messages.put.Statement.{statement}
-use Rattle.velocities.proofs.messages.put.Tie as tie
+use Rattle.carrying.proofs.SizeLaws.{type-lt}
+use Rattle.carrying.proofs.StoreLaws.{bearing-fits, own-room, nothing-stored, horizontal-stored, vertical-stored, uncertain-stored, all-stored}
+use Rattle.carrying.proofs.messages.put.Statement.{statement}
+use Rattle.carrying.proofs.messages.put.Tie as tie
 
 type-number-requires : tie.Need-type-number-requires
 type-number-requires c κs = search needs

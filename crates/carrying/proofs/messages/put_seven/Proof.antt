@@ -1,7 +1,7 @@
 -- Stores one after another.
 use borrow.Author.Needs.{needs}
-use Rattle.velocities.proofs.messages.put_seven.Statement.{statement}
-use Rattle.velocities.proofs.messages.put_seven.Tie as tie
+use Rattle.carrying.proofs.messages.put_seven.Statement.{statement}
+use Rattle.carrying.proofs.messages.put_seven.Tie as tie
 
 put-five-requires : tie.Need-put-five-requires
 put-five-requires c κs = search needs

@@ -1,8 +1,8 @@
 use denote.Ref.{now}
-use Rattle.velocities.proofs.FirstOctet.{down-in}
+use Rattle.carrying.proofs.FirstOctets.{down-in}
 use borrow.Author.Needs.{needs}
-use Rattle.velocities.proofs.records.vertical.Statement.{statement}
-use Rattle.velocities.proofs.records.vertical.Tie as tie
+use Rattle.carrying.proofs.records.vertical.Statement.{statement}
+use Rattle.carrying.proofs.records.vertical.Tie as tie
 
 motion-requires : tie.Need-motion-requires
 motion-requires c κs = search needs

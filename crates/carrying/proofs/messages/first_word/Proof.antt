@@ -1,8 +1,8 @@
 use native.Mathlib.Omega.{arith}
-use Rattle.velocities.proofs.UnusedLaws.{bit-lt}
+use Rattle.carrying.proofs.SizeLaws.{bit-lt}
 use borrow.Author.Needs.{needs}
-use Rattle.velocities.proofs.messages.first_word.Statement.{statement}
-use Rattle.velocities.proofs.messages.first_word.Tie as tie
+use Rattle.carrying.proofs.messages.first_word.Statement.{statement}
+use Rattle.carrying.proofs.messages.first_word.Tie as tie
 
 bit-requires : tie.Need-bit-requires
 bit-requires c κs = search needs

@@ -1,7 +1,7 @@
 -- Stores one after another.
 use borrow.Author.Needs.{needs}
-use Rattle.velocities.proofs.messages.put_four.Statement.{statement}
-use Rattle.velocities.proofs.messages.put_four.Tie as tie
+use Rattle.carrying.proofs.messages.put_four.Statement.{statement}
+use Rattle.carrying.proofs.messages.put_four.Tie as tie
 
 put-word-requires : tie.Need-put-word-requires
 put-word-requires c κs = search needs

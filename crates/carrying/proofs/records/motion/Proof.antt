@@ -1,8 +1,8 @@
 use denote.Ref.{now}
-use Rattle.velocities.proofs.FirstOctet.{bearing-in}
+use Rattle.carrying.proofs.FirstOctets.{bearing-in}
 use borrow.Author.Needs.{needs}
-use Rattle.velocities.proofs.records.motion.Statement.{statement}
-use Rattle.velocities.proofs.records.motion.Tie as tie
+use Rattle.carrying.proofs.records.motion.Statement.{statement}
+use Rattle.carrying.proofs.records.motion.Tie as tie
 
 blank-velocity-requires : tie.Need-blank-velocity-requires
 blank-velocity-requires c κs = search needs

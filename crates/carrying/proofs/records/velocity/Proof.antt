@@ -7,9 +7,9 @@ use native.Mathlib.Omega.{arith}
 use denote.Ref.{now}
 use Rattle.layout.specs.declared.velocities.VelocityKind.{VelocityKind}
 use Rattle.layout.specs.declared.velocities.VelocityKind.the-variants.{Horizontal, HorizontalVertical, HorizontalUncertain, HorizontalVerticalUncertain}
-use Rattle.velocities.specs.Reading.{OfLength, recordOf}
-use Rattle.velocities.proofs.records.velocity.Statement.{statement}
-use Rattle.velocities.proofs.records.velocity.Tie as tie
+use Rattle.carrying.specs.Carrying.{OfLength, recordOf}
+use Rattle.carrying.proofs.records.velocity.Statement.{statement}
+use Rattle.carrying.proofs.records.velocity.Tie as tie
 
 -- what the kind's own rows say of the length
 long : (s : List ℕ) (kind k : VelocityKind) → kind ≡ k → OfLength kind s → OfLength k s

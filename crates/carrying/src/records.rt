@@ -9,7 +9,7 @@ ghost use mathlib.Core.Path.{_≡_};
 ghost use Prim.Native.Nat.{_≤_};
 ghost use lib.ListN.{length};
 ghost use Rattle.octets.specs.Bits.{bits};
-ghost use Rattle.velocities.specs.Reading.{OfLength, recordOf, motionOf, verticalOf};
+ghost use Rattle.carrying.specs.Carrying.{OfLength, recordOf, motionOf, verticalOf};
 
 pub fn velocity(s: &[u8], kind: VelocityKind, first: u8) -> Velocity
     requires { ⌜ first ≡ bits (now s) 0 8 ⌝ }

@@ -14,7 +14,7 @@ use Rattle.layout.specs.Demands.{InFields}
 use Rattle.layout.specs.Velocities.{velocityValueOf}
 use Rattle.layout.proofs.TidyLaws.{message-length}
 use Rattle.layout.proofs.VelocityMessageLaws.{horizontal-message, vertical-message, uncertain-message, all-message}
-use Rattle.velocities.specs.Writing.{Storable, Stored, firstNumber, front}
+use Rattle.carrying.specs.Carrying.{Storable, Stored, firstNumber, front}
 
 -- a message that is stored from the first octet on
 in-front : (rows : List Row) (value : Field → ℕ) (before after m : List ℕ) → message rows value ≡ m → lengthOf rows ≤ length before → after ≡ sets before 0 m

@@ -1,7 +1,7 @@
 -- Stores one after another.
 use borrow.Author.Needs.{needs}
-use Rattle.velocities.proofs.messages.put_five.Statement.{statement}
-use Rattle.velocities.proofs.messages.put_five.Tie as tie
+use Rattle.carrying.proofs.messages.put_five.Statement.{statement}
+use Rattle.carrying.proofs.messages.put_five.Tie as tie
 
 put-four-requires : tie.Need-put-four-requires
 put-four-requires c κs = search needs
