@@ -9,7 +9,8 @@ use lib.Seq.{drop-drop, length-take-le, take-take}
 use lib.Dec.{eqb}
 use borrow.Author.Tests.{eqb-true, eqb-false}
 use borrow.Rule.Slice.PartMut.{putMid, postOf, take-put}
-use Rattle.listing.specs.Streaming.{Lists, longestStep}
+use Rattle.steps.specs.Steps.{longestStep}
+use Rattle.listing.specs.Streaming.{Lists}
 use Rattle.listing.specs.declared.Listed.{Listed}
 use Rattle.listing.proofs.StreamLaws.{stuck, counted}
 use Rattle.lister.specs.declared.Held.{Held}

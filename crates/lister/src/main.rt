@@ -3,7 +3,7 @@ ghost use mathlib.Core.Path.{_≡_};
 ghost use mathlib.Core.Bool.{not, _||_};
 ghost use Prim.Native.Nat.{_≤_, _<_, _-_};
 ghost use lib.ListN.{length, take, drop};
-ghost use Rattle.listing.specs.Streaming.{longestStep};
+ghost use Rattle.steps.specs.Steps.{longestStep};
 ghost use Rattle.lister.specs.Holding.{Sound, Refilled, Turned, Goes, mostFrames};
 
 // No log has so many frames: each takes four octets or more.

@@ -11,7 +11,8 @@ use Rattle.frames.specs.Frames.{frameOf}
 use Rattle.frames.specs.declared.Frame.{Frame}
 use Rattle.frames.specs.declared.Frame.the-variants.{Whole, Broken, More, End}
 use Rattle.frames.proofs.FrameLaws.{short-end, frame-made, frame-waits, made-whole, Made}
-use Rattle.listing.specs.Listing.{textOf, lineOf, listing}
+use Rattle.steps.specs.Steps.{textOf, lineOf}
+use Rattle.listing.specs.Listing.{listing}
 use Rattle.listing.specs.Streaming.{listFrom}
 use Rattle.listing.specs.Messages.{Message, framed, Input, nothing, broken, frame, linesOf, closing}
 use Rattle.listing.proofs.StreamLaws.{list-step, whole-there}

@@ -16,8 +16,8 @@ use Rattle.frames.specs.declared.Frame.{Frame}
 use Rattle.frames.proofs.Frame.{the-type}
 use Rattle.frames.specs.declared.Frame.the-variants.{Whole, Broken, More, End}
 use Rattle.frames.proofs.FrameLaws.{frame-there}
-use Rattle.listing.specs.Listing.{textOf}
-use Rattle.listing.specs.Streaming.{longestStep, found, onFrame, endsRun, someIn, someOf, Lists}
+use Rattle.steps.specs.Steps.{textOf, longestStep}
+use Rattle.listing.specs.Streaming.{found, onFrame, endsRun, someIn, someOf, Lists}
 
 -- a part to the end is what is dropped to
 pub to-end : (s : List ℕ) (at : ℕ) → take (length s - at) (drop at s) ≡ drop at s

@@ -15,8 +15,9 @@ use Rattle.frames.specs.Frames.{frameOf, octetsOf}
 use Rattle.frames.specs.declared.Frame.{Frame}
 use Rattle.frames.specs.declared.Frame.the-variants.{Whole, Broken, More, End}
 use Rattle.frames.proofs.FrameLaws.{frame-there, frame-stays, frame-waits}
-use Rattle.listing.specs.Listing.{textOf, onWhole, listIn, listing}
-use Rattle.listing.specs.Streaming.{longestStep, listFrom, Found, found, onFrame, endsRun, someIn, someOf, Lists, Runs, over, turn}
+use Rattle.steps.specs.Steps.{textOf, longestStep}
+use Rattle.listing.specs.Listing.{onWhole, listIn, listing}
+use Rattle.listing.specs.Streaming.{listFrom, Found, found, onFrame, endsRun, someIn, someOf, Lists, Runs, over, turn}
 use Rattle.listing.specs.declared.Listed.{Listed}
 
 -- ---- a frame, and then the rest

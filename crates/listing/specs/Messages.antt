@@ -7,7 +7,7 @@ use lib.ListN.{length}
 use Rattle.printing.specs.Printing.{endText}
 use Rattle.frames.specs.Frames.{frameOf}
 use Rattle.frames.specs.declared.Frame.the-variants.{Broken}
-use Rattle.listing.specs.Listing.{lineOf, brokenOf}
+use Rattle.steps.specs.Steps.{lineOf, brokenOf}
 
 pub record Message : Type 0 where
   pub kind : ℕ

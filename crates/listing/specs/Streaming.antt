@@ -9,12 +9,9 @@ use lib.Seq.{sets}
 use Rattle.frames.specs.Frames.{frameOf}
 use Rattle.frames.specs.declared.Frame.{Frame}
 use Rattle.frames.specs.declared.Frame.the-variants.{Whole, Broken, More, End}
-use Rattle.listing.specs.Listing.{textOf, listIn}
+use Rattle.steps.specs.Steps.{textOf, longestStep}
+use Rattle.listing.specs.Listing.{listIn}
 use Rattle.listing.specs.declared.Listed.{Listed}
-
--- no frame's text, with the end line behind a broken one, takes more octets
-abbrev pub longestStep : ℕ
-longestStep = 800
 
 -- the text of all that is left of the input, after some unbroken frames
 unfoldable pub listFrom : ℕ → List ℕ → List ℕ

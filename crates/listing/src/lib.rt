@@ -1,6 +1,4 @@
 // The listing of a log that comes in pieces: a line for each frame, and a last line with their number. Document 01, "The lister".
-mod lines;
-
 use frames::Frame;
 ghost use mathlib.Core.Path.{_≡_};
 ghost use Prim.Native.Nat.{_+_, _<_, _^_};
@@ -32,7 +30,7 @@ pub fn list_some(out: &mut [u8], input: &[u8], last: bool, unbroken: u64) -> Lis
     while LONGEST_STEP <= out.len() - written {
         let rest = &input[taken..];
         let frame = frames::next_frame(rest, last);
-        written = lines::put_step(out, written, frame, rest, count);
+        written = steps::put_step(out, written, frame, rest, count);
         let Frame::Whole { kind: _, size } = frame else {
             return Listed {
                 taken,

@@ -1,10 +1,9 @@
--- What a first octet says: the kind, D, and with the second the bearing. Assumes nothing.
-use Prim.Native.Nat.{ℕ, zero, suc, _+_, _*_, _/_, _%_}
+-- The kind that a first octet says. Assumes nothing.
+use Prim.Native.Nat.{ℕ, zero, suc, _/_}
 use mathlib.Core.Path.{_≡_, refl, ap, _∙_}
 use mathlib.Core.List.{List}
-use native.Mathlib.Omega.{arith}
 use Rattle.octets.specs.Bits.{bits}
-use Rattle.octets.proofs.BitLaws.{bits-join, bits-high, bits-low}
+use Rattle.octets.proofs.BitLaws.{bits-high}
 use Rattle.layout.specs.declared.velocities.VelocityKind.{VelocityKind}
 use Rattle.layout.specs.declared.velocities.VelocityKind.the-variants.{Nothing}
 use Rattle.layout.specs.Velocities.{velocityKindOf, velocityKindIn}
@@ -20,9 +19,3 @@ no-kind (suc (suc (suc (suc n)))) a b c d = refl
 module _ (s : List ℕ) (first : ℕ) (e : first ≡ bits s 0 8) where
   pub kind-in : (k : VelocityKind) → k ≡ velocityKindOf (first / 16) → k ≡ velocityKindIn s
   kind-in k f = f ∙ ap (λ (o : ℕ). velocityKindOf (o / 16)) e ∙ ap velocityKindOf (bits-high s 0 4 4)
-
-  pub down-in : bits s 6 1 ≡ first / 2 % 2
-  down-in = omega (arith, bits-high s 0 7 1, bits-low s 0 6 1)
-
-  pub bearing-in : bits s 7 9 ≡ first % 2 * 256 + bits s 8 8
-  bearing-in = omega (arith, bits-join s 7 1 8, bits-low s 0 7 1)

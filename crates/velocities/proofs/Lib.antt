@@ -3,4 +3,3 @@ pub mod DemandLaws
 pub mod ReadLaws
 pub mod UnusedLaws
 pub mod WriteLaws
-pub mod StoreLaws

@@ -18,7 +18,8 @@ use Rattle.layout.specs.Layout.{bearing, velocityRows}
 use Rattle.layout.specs.Rows.{read}
 use Rattle.layout.specs.Demands.{Listed, ReadAnswer}
 use Rattle.layout.specs.Velocities.{velocityKindIn, velocityRowsIn, velocityIn, blankVelocity, ReadsVelocity}
-use Rattle.velocities.specs.Reading.{FormAnswer, OfLength, recordOf, RefusedWith}
+use Rattle.carrying.specs.Carrying.{OfLength, recordOf}
+use Rattle.velocities.specs.Reading.{FormAnswer, RefusedWith}
 use Rattle.velocities.proofs.DemandLaws.{no-count, no-confidence, sound-bearing, bearing-sound}
 
 -- ---- the whole answer for a kind, from the form's and the bearing's

@@ -41,6 +41,7 @@ use Rattle.layout.specs.Layout.{
 use Rattle.layout.specs.Rows.{widthOf}
 use Rattle.layout.specs.Demands.{Listed, InFields}
 use Rattle.layout.specs.Velocities.{velocityValueOf}
+use Rattle.carrying.proofs.SizeLaws.{bit-lt, type-lt}
 use Rattle.velocities.specs.Writing.{AreZero}
 
 -- ---- what a record's codes are
@@ -55,20 +56,9 @@ pub record Typed (x : Velocity) : Type 0 where
   pub uncertainties : x .uncertainty .0 < 256
   pub verticalUncertainties : x .«vertical_uncertainty» .0 < 256
 
-pub bit-lt : (b : Bool) → bitOf b < 2
-bit-lt true = omega arith
-bit-lt false = omega arith
-
 bit-zero : (b : Bool) → bitOf b < 1 → b ≡ false
 bit-zero true h = absurd (omega arith)
 bit-zero false h = refl
-
-pub type-lt : (k : VelocityKind) → velocityTypeOf k < 16
-type-lt Nothing = omega arith
-type-lt Horizontal = omega arith
-type-lt HorizontalVertical = omega arith
-type-lt HorizontalUncertain = omega arith
-type-lt HorizontalVerticalUncertain = omega arith
 
 -- by the fields that some velocity has; every other number is zero
 module _ (x : Velocity) (rows : List Row)

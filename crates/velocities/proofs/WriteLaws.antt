@@ -6,7 +6,8 @@ use Rattle.ground.proofs.AnswerLaws.{when-done}
 use Rattle.layout.specs.declared.velocities.Velocity.{Velocity}
 use Rattle.layout.specs.Rows.{lengthOf}
 use Rattle.layout.specs.Demands.{Listed}
-use Rattle.velocities.specs.Writing.{rowsOf, VelocityAnswer, VelocityInFields, Storable}
+use Rattle.carrying.specs.Carrying.{rowsOf, VelocityInFields, Storable}
+use Rattle.velocities.specs.Writing.{VelocityAnswer}
 use Rattle.velocities.proofs.DemandLaws.{no-count, no-confidence, sound-bearing, bearing-sound}
 
 -- 5, 7 and 10 of a listed kind

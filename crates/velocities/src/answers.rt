@@ -11,7 +11,8 @@ ghost use Rattle.layout.specs.Layout.{velocityRows};
 ghost use Rattle.layout.specs.Rows.{lengthOf};
 ghost use Rattle.layout.specs.Demands.{Listed};
 ghost use Rattle.velocities.specs.Reading.{FormAnswer};
-ghost use Rattle.velocities.specs.Writing.{rowsOf, VelocityAnswer, VelocityInFields, AreZero};
+ghost use Rattle.carrying.specs.Carrying.{rowsOf, VelocityInFields};
+ghost use Rattle.velocities.specs.Writing.{VelocityAnswer, AreZero};
 
 // 2 and 3, of so many octets.
 pub fn of_message(length: usize, kind: VelocityKind) -> Outcome

@@ -1,8 +1,8 @@
-// The kinds' type numbers and lengths.
+// The kinds of type numbers, and their lengths.
 use layout::VelocityKind;
 ghost use mathlib.Core.Path.{_≡_};
 ghost use Prim.Native.Nat.{_/_};
-ghost use Rattle.layout.specs.Layout.{velocityRows, velocityTypeOf};
+ghost use Rattle.layout.specs.Layout.{velocityRows};
 ghost use Rattle.layout.specs.Rows.{lengthOf};
 ghost use Rattle.layout.specs.Velocities.{velocityKindOf};
 
@@ -29,17 +29,5 @@ pub fn length_of(kind: VelocityKind) -> usize
         VelocityKind::HorizontalVertical => 5,
         VelocityKind::HorizontalUncertain => 5,
         VelocityKind::HorizontalVerticalUncertain => 7,
-    }
-}
-
-pub fn type_number(kind: VelocityKind) -> u16
-    ensures { λ r. ⌜ r ≡ velocityTypeOf kind ⌝ }
-{
-    match kind {
-        VelocityKind::Nothing => 0,
-        VelocityKind::Horizontal => 0,
-        VelocityKind::HorizontalVertical => 1,
-        VelocityKind::HorizontalUncertain => 2,
-        VelocityKind::HorizontalVerticalUncertain => 3,
     }
 }

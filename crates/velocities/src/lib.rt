@@ -1,8 +1,6 @@
 // Octets to a velocity's record, and a record to octets: document 01, "Octet layouts" and "Refusal numbers".
 mod answers;
 mod kinds;
-mod messages;
-mod records;
 
 use ground::Outcome;
 use ground::Refusal;
@@ -14,7 +12,8 @@ ghost use Rattle.ground.specs.Answers.{outcomeNumber};
 ghost use Rattle.layout.specs.Rows.{lengthOf};
 ghost use Rattle.layout.specs.Velocities.{ReadsVelocity, WritesVelocity};
 ghost use Rattle.velocities.specs.Reading.{RefusedWith};
-ghost use Rattle.velocities.specs.Writing.{rowsOf, VelocityAnswer};
+ghost use Rattle.carrying.specs.Carrying.{rowsOf};
+ghost use Rattle.velocities.specs.Writing.{VelocityAnswer};
 
 // The record in a message, or the refusal. Each octet is looked at once, and 5 is judged on the record.
 pub fn read_velocity(s: &[u8]) -> VelocityRead
@@ -28,7 +27,7 @@ pub fn read_velocity(s: &[u8]) -> VelocityRead
     if let Outcome::Refused(why) = answers::of_message(s.len(), kind) {
         return refused(why);
     }
-    let velocity = records::velocity(s, kind, first);
+    let velocity = carrying::velocity(s, kind, first);
     if 360 <= velocity.bearing.0 {
         return refused(Refusal::AngleCode);
     }
@@ -57,7 +56,7 @@ pub fn write_velocity(out: &mut [u8], velocity: Velocity) -> Written
     let outcome = answers::of_record(velocity, room);
     let length = answers::written(outcome, kind);
     if 0 < length {
-        messages::put(out, velocity);
+        carrying::put(out, velocity);
     }
     Written { outcome, length }
 }

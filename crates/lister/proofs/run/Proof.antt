@@ -3,7 +3,7 @@ use borrow.Author.Needs.{needs}
 use Prim.Native.Nat.{_≤_}
 use mathlib.Core.Path.{_≡_}
 use lib.ListN.{length}
-use Rattle.listing.specs.Streaming.{longestStep}
+use Rattle.steps.specs.Steps.{longestStep}
 use Rattle.lister.specs.Holding.{Sound, turnsLeft}
 use Rattle.lister.proofs.run.Statement.{statement}
 use Rattle.lister.proofs.run.Tie as tie

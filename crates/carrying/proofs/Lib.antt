@@ -1,0 +1,3 @@
+pub mod FirstOctets
+pub mod SizeLaws
+pub mod StoreLaws

@@ -1,0 +1,52 @@
+-- A velocity's record in octets, and the octets of a record, in the words of the layout table. Assumes nothing.
+use mathlib.Core.Path.{_≡_}
+use mathlib.Core.Bool.{Bool}
+use mathlib.Core.List.{List, [], _∷_, _++_}
+use Prim.Native.Nat.{ℕ, _+_, _*_, _≤_}
+use lib.ListN.{length, drop}
+use Rattle.octets.specs.Bits.{octets}
+use Rattle.octets.specs.Codes.{bitOf}
+use Rattle.layout.specs.declared.velocities.VelocityKind.{VelocityKind}
+use Rattle.layout.specs.declared.velocities.Velocity.{Velocity}
+use Rattle.layout.specs.Layout.{Row, row, down, verticalSpeed, motion, velocityRows}
+use Rattle.layout.specs.Rows.{read, lengthOf, message}
+use Rattle.layout.specs.Demands.{InFields}
+use Rattle.layout.specs.Velocities.{velocityOf, velocityValueOf}
+
+-- octets as many as a kind's messages have
+abbrev pub OfLength : VelocityKind → List ℕ → Type 0
+OfLength k s = length s ≡ lengthOf (velocityRows k)
+
+-- the record of a kind in octets; of bearing and horizontal speed alone; with the vertical speed
+abbrev pub recordOf : VelocityKind → List ℕ → Velocity
+recordOf k s = velocityOf k (read s (velocityRows k))
+
+abbrev pub motionOf : VelocityKind → List ℕ → Velocity
+motionOf k s = velocityOf k (read s motion)
+
+abbrev pub verticalOf : VelocityKind → List ℕ → Velocity
+verticalOf k s = velocityOf k (read s (row down 6 1 ∷ motion ++ row verticalSpeed 32 8 ∷ []))
+
+-- ---- a record's octets
+
+abbrev pub rowsOf : Velocity → List Row
+rowsOf x = velocityRows (x .kind)
+
+abbrev pub VelocityInFields : Velocity → Type 0
+VelocityInFields x = InFields (rowsOf x) (velocityValueOf x)
+
+-- a record whose message can be stored in so much room
+pub record Storable (x : Velocity) (room : ℕ) : Type 0 where
+  pub fields : VelocityInFields x
+  pub fits : lengthOf (rowsOf x) ≤ room
+
+-- the message in the first octets, and the others as they were
+abbrev pub Stored : Velocity → List ℕ → List ℕ → Type 0
+Stored x before after = after ≡ message (rowsOf x) (velocityValueOf x) ++ drop (lengthOf (rowsOf x)) before
+
+-- the type, D and the bearing as the number of two octets; those and the horizontal speed's two
+abbrev pub firstNumber : ℕ → Bool → ℕ → ℕ
+firstNumber type sign bearing = 4096 * type + 512 * bitOf sign + bearing
+
+abbrev pub front : ℕ → ℕ → List ℕ
+front first speed = octets 2 first ++ octets 2 speed
