@@ -68,6 +68,7 @@ pub data Before : List ℕ → List ℕ → Type 0 where
 abbrev pub rank : Shape → ℕ → List ℕ
 rank x n = majorOf (areaHad (rowsOf x) x) ∷ minorOf (areaHad (rowsOf x) x) ∷ heightOf (altitudeUncertaintyHad (rowsOf x) x) ∷ n ∷ []
 
+-- s is better than t
 abbrev pub Better : List ℕ → List ℕ → Type 0
 Better s t = Before (rank (shapeIn s) (length s)) (rank (shapeIn t) (length t))
 

@@ -1,5 +1,5 @@
 -- What is kept of the input and of the answers. Assumes nothing.
-use Prim.Native.Nat.{_≤_}
+use Prim.Native.Nat.{ℕ, _+_, _≤_, min}
 use Rattle.streaming.specs.declared.input.Input.{Input}
 use Rattle.streaming.specs.declared.output.Output.{Output}
 
@@ -10,3 +10,7 @@ pub record SoundInput (i : Input) : Type 0 where
 
 pub record SoundOutput (o : Output) : Type 0 where
   pub answers : o .put ≤ 4096
+
+-- one line more, at most what 64 bits can count
+abbrev pub oneMore : ℕ → ℕ
+oneMore n = min (n + 1) 18446744073709551615

@@ -1,7 +1,8 @@
 // Answers, written to standard output when there is no room for one more, and the last line.
 ghost use Prim.Native.Nat.{_+_, _≤_};
 ghost use lib.ListN.{length};
-ghost use Rattle.streaming.specs.Streaming.{SoundOutput};
+ghost use mathlib.Core.Path.{_≡_};
+ghost use Rattle.streaming.specs.Streaming.{SoundOutput, oneMore};
 
 // Answers are written before they take more octets.
 const ROOM: usize = 4096;
@@ -46,7 +47,9 @@ pub fn make_room(out: &[u8; 4096], output: Output, longest: usize) -> Output
 }
 
 // One line more. No input has more than 64 bits can count.
-pub fn counted(answered: u64) -> u64 {
+pub fn counted(answered: u64) -> u64
+    ensures { λ r. ⌜ r ≡ oneMore answered ⌝ }
+{
     if answered < u64::MAX {
         return answered + 1;
     }
