@@ -1,5 +1,6 @@
 // Parts of a line, written as they come.
 use ground::Outcome;
+use ground::Whole;
 
 // A space and an answer's number.
 pub fn print_outcome(outcome: Outcome) {
@@ -12,6 +13,19 @@ pub fn print_outcome(outcome: Outcome) {
 pub fn print_number(n: u64) {
     io::write_all(1, b" ");
     io::print_decimal(1, n);
+}
+
+pub fn print_natural(n: u32) {
+    print_number(n as u64);
+}
+
+pub fn print_signed(x: Whole) {
+    io::write_all(1, b" ");
+    let parts = ground::taken_apart(x);
+    if parts.negative {
+        io::write_all(1, b"-");
+    }
+    io::print_decimal(1, parts.size);
 }
 
 // A space and the octets, `-` for none.

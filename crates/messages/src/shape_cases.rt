@@ -9,7 +9,6 @@ use ground::LongitudeCode;
 use ground::OffsetCode;
 use ground::OrientationCode;
 use ground::UncertaintyCode;
-use layout::Kind;
 use layout::Shape;
 
 // The answer to octets, and the message of the record that was read.
@@ -41,23 +40,10 @@ fn print_into(buffer: &mut [u8], shape: Shape) {
     cases::print_octets(buffer);
 }
 
-fn kind_of(number: u8) -> Kind {
-    match number {
-        0 => Kind::Point,
-        1 => Kind::Circle,
-        3 => Kind::Ellipse,
-        5 => Kind::Polygon,
-        8 => Kind::AltitudePoint,
-        9 => Kind::AltitudeEllipsoid,
-        10 => Kind::Arc,
-        _ => Kind::Nothing,
-    }
-}
-
 // The record of the numbers after the room: its type, its codes in the record's order, its count. Every point is zero.
 fn shape_of(values: [i32; 64]) -> Shape {
     Shape {
-        kind: kind_of(cases::octet(values[1])),
+        kind: cases::kind_of(cases::octet(values[1])),
         latitude: LatitudeCode(values[2] == 1, cases::natural(values[3])),
         longitude: LongitudeCode(values[4]),
         altitude: AltitudeCode(values[5] == 1, cases::word(values[6])),

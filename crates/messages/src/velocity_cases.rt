@@ -4,7 +4,6 @@ use ground::HorizontalSpeedCode;
 use ground::UncertaintySpeedCode;
 use ground::VerticalSpeedCode;
 use layout::Velocity;
-use layout::VelocityKind;
 
 // The answer to octets, and the message of the record that was read.
 pub fn print_read(digits: &[u8]) {
@@ -35,20 +34,10 @@ fn print_into(buffer: &mut [u8], velocity: Velocity) {
     cases::print_octets(buffer);
 }
 
-fn kind_of(number: u8) -> VelocityKind {
-    match number {
-        0 => VelocityKind::Horizontal,
-        1 => VelocityKind::HorizontalVertical,
-        2 => VelocityKind::HorizontalUncertain,
-        3 => VelocityKind::HorizontalVerticalUncertain,
-        _ => VelocityKind::Nothing,
-    }
-}
-
 // The record of the numbers after the room.
 fn velocity_of(values: [i32; 64]) -> Velocity {
     Velocity {
-        kind: kind_of(cases::octet(values[1])),
+        kind: cases::velocity_kind_of(cases::octet(values[1])),
         bearing: BearingCode(cases::word(values[2])),
         horizontal_speed: HorizontalSpeedCode(cases::word(values[3])),
         vertical_speed: VerticalSpeedCode(values[4] == 1, cases::octet(values[5])),
