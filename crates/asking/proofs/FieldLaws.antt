@@ -7,37 +7,14 @@ use Prim.Native.Nat.{ℕ, zero, suc, _+_, _-_, _≤_, _<_}
 use native.Mathlib.Omega.{arith}
 use native.Mathlib.Nat.{add-zero}
 use native.Mathlib.Numerals.{add-one}
+use borrow.Author.Count.{below-more}
 use borrow.Author.Tests.{ne-eqb}
 use lib.Dec.{eqb}
-use lib.ListN.{length, getD, take, drop, length-drop}
-use lib.Seq.{drop-cons, drop-drop, getD-drop, take-all}
+use lib.ListN.{length, getD, set, take, drop, length-drop, length-set}
+use lib.Seq.{drop-drop, getD-drop, getD-set-same, getD-set-other, take-all}
 use Rattle.numerals.specs.Marks.{FirstMark}
 use Rattle.text.proofs.OutputLaws.{split}
-use Rattle.asking.specs.Fields.{fieldsFrom, fieldsOf, fieldAt, Starts, Stands}
-
--- ---- how many there are
-
-same-step : (f g s : List ℕ) (b : ℕ) (t : Bool) → eqb b 32 ≡ t → ((u v : List ℕ) → length (fieldsFrom u s) ≡ length (fieldsFrom v s))
-    → length (fieldsFrom f (b ∷ s)) ≡ length (fieldsFrom g (b ∷ s))
-unfolding fieldsFrom
-same-step f g s b true e same = rw e
-same-step f g s b false e same = rw e (same (f ++ b ∷ []) (g ++ b ∷ []))
-
--- what the first field starts with doesn't matter
-same-count : (f g s : List ℕ) → length (fieldsFrom f s) ≡ length (fieldsFrom g s)
-unfolding fieldsFrom
-same-count f g [] = refl
-same-count f g (b ∷ s) = same-step f g s b (eqb b 32) refl (λ u v. same-count u v s)
-
-module _ (line : List ℕ) (i : ℕ) (h : i < length line) where
-  -- a space makes one field more
-  pub count-space : getD line i 0 ≡ 32 → length (fieldsOf (drop i line)) ≡ 1 + length (fieldsOf (drop (i + 1) line))
-  unfolding fieldsFrom
-  count-space e = rw (add-one i, drop-cons line i 0 h, e) (omega arith)
-
-  pub count-other : (getD line i 0 ≡ 32 → ⊥) → length (fieldsOf (drop i line)) ≡ length (fieldsOf (drop (i + 1) line))
-  unfolding fieldsFrom
-  count-other n = rw (add-one i, drop-cons line i 0 h, ne-eqb (getD line i 0) 32 n) (same-count (getD line i 0 ∷ []) [] (drop (suc i) line))
+use Rattle.asking.specs.Fields.{fieldsFrom, fieldsOf, fieldAt, Starts, Stands, startAt, Eight}
 
 -- ---- the first field, up to the first space or to the end
 
@@ -73,25 +50,40 @@ module _ {line : List ℕ} {from r : ℕ} (m : FirstMark 32 line from r) where
 
 -- ---- the places of fields
 
-module _ {line : List ℕ} {number from r : ℕ} (s : Starts line number from) (m : FirstMark 32 line from r) where
-  pub ends-inside : suc number < length (fieldsOf line) → r < length line
-  ends-inside more =
-      ⊎-elim (λ (h : r < length line). h)
-      (λ (h : length line ≤ r).
-      let one : length (fieldsOf (drop from line)) ≡ 1 = ap length (unmarked m h) in
-      let left : length (fieldsOf (drop from line)) ≡ length (fieldsOf line) - number = ap length (s .rest) ∙ length-drop number (fieldsOf line) in
-      absurd (omega arith))
-      (split r (length line))
+some-by : (f s : List ℕ) (b : ℕ) (t : Bool) → eqb b 32 ≡ t → ((g : List ℕ) → 0 < length (fieldsFrom g s)) → 0 < length (fieldsFrom f (b ∷ s))
+unfolding fieldsFrom
+some-by f s b true e some = rw e (omega arith)
+some-by f s b false e some = rw e (some (f ++ b ∷ []))
 
-  pub start-next : suc number < length (fieldsOf line) → Starts line (number + 1) (r + 1)
-  start-next more =
-      let h = ends-inside more in
+-- no line is without a field
+some-field : (f s : List ℕ) → 0 < length (fieldsFrom f s)
+unfolding fieldsFrom
+some-field f [] = omega arith
+some-field f (b ∷ s) = some-by f s b (eqb b 32) refl (λ g. some-field g s)
+
+module _ {line : List ℕ} {number from r : ℕ} (s : Starts line number from) (m : FirstMark 32 line from r) where
+  left : length (fieldsOf (drop from line)) ≡ length (fieldsOf line) - number
+  left = ap length (s .rest) ∙ length-drop number (fieldsOf line)
+
+  -- a field that ends at the line's end is the last, and one that ends at a space is not
+  last : length line ≤ r → length (fieldsOf line) ≡ number + 1
+  last h =
+      let one : length (fieldsOf (drop from line)) ≡ 1 = ap length (unmarked m h) in
+      omega (arith, left)
+
+  not-last : r < length line → number + 1 < length (fieldsOf line)
+  not-last h =
+      let more : length (fieldsOf (drop from line)) ≡ suc (length (fieldsOf (drop (r + 1) line))) = ap length (marked m h) in
+      omega (arith, left, some-field [] (drop (r + 1) line))
+
+  start-next : r < length line → Starts line (number + 1) (r + 1)
+  start-next h =
       record {
         inside = omega arith;
         rest = rw (← drop-drop 1 number (fieldsOf line), ← s .rest, marked m h);
       }
 
-  pub stands : Stands line number from r
+  stands : Stands line number from r
   stands =
       let first : getD (fieldsOf (drop from line)) 0 [] ≡ fieldAt line number = rw (s .rest, getD-drop, add-zero) in
       record {
@@ -102,3 +94,60 @@ module _ {line : List ℕ} {number from r : ℕ} (s : Starts line number from) (
             (λ (h : length line ≤ r). ap (λ (fs : List (List ℕ)). getD fs 0 []) (sym (unmarked m h)) ∙ first)
             (split r (length line));
       }
+
+-- ---- the ends of fields
+
+abbrev EndsAt : List ℕ → List ℕ → ℕ → Type 0
+EndsAt line ends number = Stands line number (startAt ends number) (getD ends number 0)
+
+pub start-past : (ends : List ℕ) (number : ℕ) → 0 < number → getD ends (number - 1) 0 + 1 ≡ startAt ends number
+start-past ends zero h = absurd (omega arith)
+start-past ends (suc number) h =
+    let e : suc number - 1 ≡ number = omega arith in
+    rw e
+
+-- the fields before that number end there, and the field of that number starts at `from`
+pub record Parted (line ends : List ℕ) (number from : ℕ) : Type 0 where
+  pub room : length ends ≡ 8
+  pub starts : Starts line number from
+  pub start : startAt ends number ≡ from
+  pub each : (k : ℕ) → k < number → EndsAt line ends k
+
+pub parted-none : {line ends : List ℕ} → length ends ≡ 8 → Parted line ends 0 0
+parted-none e = record { room = e; starts = record { inside = omega arith; rest = refl }; start = refl; each = λ k h. absurd (omega arith) }
+
+module _ {line ends : List ℕ} {number from r : ℕ} (p : Parted line ends number from) (m : FirstMark 32 line from r) (l : number < 8) where
+  start-kept : (k : ℕ) → k ≤ number → startAt (set ends number r) k ≡ startAt ends k
+  start-kept zero h = refl
+  start-kept (suc k) h = rw (getD-set-other ends number k r 0 (λ e. absurd (omega arith)))
+
+  one-more : (k : ℕ) → k < number + 1 → EndsAt line (set ends number r) k
+  one-more = below-more (EndsAt line (set ends number r)) number others this
+    where
+      this : EndsAt line (set ends number r) number
+      this = rw (start-kept number (omega arith), getD-set-same ends number r 0 (omega (arith, p .room)), p .start) (stands (p .starts) m)
+
+      others : (k : ℕ) → k < number → EndsAt line (set ends number r) k
+      others k h = rw (start-kept k (omega arith), getD-set-other ends number k r 0 (λ e. absurd (omega arith))) (p .each k h)
+
+  pub parted-more : r < length line → Parted line (set ends number r) (number + 1) (r + 1)
+  parted-more h =
+      record {
+        room = rw length-set (p .room);
+        starts = start-next (p .starts) m h;
+        start = rw (add-one number, getD-set-same ends number r 0 (omega (arith, p .room)));
+        each = one-more;
+      }
+
+pub too-few : {line ends : List ℕ} {number from r : ℕ} → Parted line ends number from → FirstMark 32 line from r → number < 7 → r ≡ length line → length (fieldsOf line) ≡ 8 → ⊥
+too-few p m l e n = omega (arith, last (p .starts) m (omega arith))
+
+module _ {line ends : List ℕ} {from r : ℕ} (p : Parted line ends 7 from) (m : FirstMark 32 line from r) where
+  pub too-many : r < length line → length (fieldsOf line) ≡ 8 → ⊥
+  too-many h n = omega (arith, not-last (p .starts) m h)
+
+  pub parted-last : length line ≤ r → Eight line (set ends 7 r)
+  parted-last h = record { eight = last (p .starts) m h; each = one-more p m (omega arith) }
+
+pub field-octets : {line ends : List ℕ} {number from end : ℕ} → Eight line ends → number < 8 → (from ≡ startAt ends number) × (end ≡ getD ends number 0) → take (end - from) (drop from line) ≡ fieldAt line number
+field-octets {number = number} e l at = rw (at .0, at .1) (e .each number l .octets)

@@ -6,10 +6,9 @@ use numerals::Signed64;
 use numerals::Unsigned32;
 use requests::Altitude;
 ghost use Prim.Native.Nat.{_<_};
-ghost use lib.ListN.{length};
 ghost use Rattle.numerals.specs.Numerals.{numeralOf};
 ghost use Rattle.numerals.specs.Widths.{AsSigned64};
-ghost use Rattle.asking.specs.Fields.{fieldsOf, fieldAt};
+ghost use Rattle.asking.specs.Fields.{fieldAt, Eight};
 ghost use Rattle.asking.specs.Reading.{ReadsAltitude, ReadsAmount};
 
 pub enum AltitudeRead {
@@ -25,33 +24,36 @@ pub enum Amount {
 }
 
 // The coordinate in the field of that number.
-pub fn coordinate_at(line: &[u8], number: usize) -> Signed64
-    requires { ⌜ number < length (fieldsOf (now line)) ⌝ }
+pub fn coordinate_at(line: &[u8], ends: &[usize; 8], number: usize) -> Signed64
+    requires { ⌜ Eight (now line) (now ends) ⌝ }
+    requires { ⌜ number < 8 ⌝ }
     ensures { λ r. ⌜ AsSigned64 (numeralOf (fieldAt (now (line .entry)) number)) r ⌝ }
 {
-    let place = places::place_of(line, number);
+    let place = places::place_of(ends, number);
     let from = place.from;
     let end = place.end;
     numerals::signed_64(numerals::number_in(&line[from..end]))
 }
 
 // The altitude in the field of that number.
-pub fn altitude_at(line: &[u8], number: usize) -> AltitudeRead
-    requires { ⌜ number < length (fieldsOf (now line)) ⌝ }
+pub fn altitude_at(line: &[u8], ends: &[usize; 8], number: usize) -> AltitudeRead
+    requires { ⌜ Eight (now line) (now ends) ⌝ }
+    requires { ⌜ number < 8 ⌝ }
     ensures { λ r. ⌜ ReadsAltitude (fieldAt (now (line .entry)) number) r ⌝ }
 {
-    let place = places::place_of(line, number);
+    let place = places::place_of(ends, number);
     let from = place.from;
     let end = place.end;
     altitude_in(&line[from..end])
 }
 
 // The amount in the field of that number.
-pub fn amount_at(line: &[u8], number: usize) -> Amount
-    requires { ⌜ number < length (fieldsOf (now line)) ⌝ }
+pub fn amount_at(line: &[u8], ends: &[usize; 8], number: usize) -> Amount
+    requires { ⌜ Eight (now line) (now ends) ⌝ }
+    requires { ⌜ number < 8 ⌝ }
     ensures { λ r. ⌜ ReadsAmount (fieldAt (now (line .entry)) number) r ⌝ }
 {
-    let place = places::place_of(line, number);
+    let place = places::place_of(ends, number);
     let from = place.from;
     let end = place.end;
     amount_in(&line[from..end])

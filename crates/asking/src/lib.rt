@@ -11,15 +11,18 @@ pub use request_lines::Asked;
 pub use request_lines::request_in;
 ghost use Rattle.asking.specs.Asking.{ListIn};
 
+// The empty list.
+const NO_SHAPES: u16 = 0;
+
 // The receiver's list that the line writes. What 16 bits can't hold is the empty list.
 pub fn list_in(line: &[u8]) -> u16
     ensures { λ r. ⌜ ListIn (now (line .entry)) r ⌝ }
 {
     let Unsigned32::Number(list) = numerals::unsigned_32(numerals::number_in(line)) else {
-        return 0;
+        return NO_SHAPES;
     };
     if 65535 < list {
-        return 0;
+        return NO_SHAPES;
     }
     list as u16
 }

@@ -13,9 +13,8 @@ use requests::AltitudeUncertainty;
 use requests::Horizontal;
 use requests::Request;
 ghost use mathlib.Core.Path.{_≡_};
-ghost use lib.ListN.{length};
 ghost use Rattle.asking.specs.Asking.{Asks};
-ghost use Rattle.asking.specs.Fields.{fieldsOf, fieldAt};
+ghost use Rattle.asking.specs.Fields.{fieldAt, Eight};
 ghost use Rattle.asking.specs.Reading.{areaOf, noAreaOf, horizontalOf, ReadsHorizontal, ReadsUncertainty, ReadsConfidence};
 
 pub enum Asked {
@@ -42,25 +41,34 @@ pub enum ConfidenceRead {
 pub fn request_in(line: &[u8]) -> Asked
     ensures { λ r. ⌜ Asks (now (line .entry)) r ⌝ }
 {
-    if places::spaces_in(line) != 7 {
-        return Asked::Unreadable;
+    let mut ends = [0; 8];
+    if places::part_in_eight(&mut ends, line) {
+        return request_of(line, &ends);
     }
-    let Signed64::Number(latitude) = amounts::coordinate_at(line, 0) else {
+    Asked::Unreadable
+}
+
+// The request that a line of eight fields says.
+fn request_of(line: &[u8], ends: &[usize; 8]) -> Asked
+    requires { ⌜ Eight (now line) (now ends) ⌝ }
+    ensures { λ r. ⌜ Asks (now (line .entry)) r ⌝ }
+{
+    let Signed64::Number(latitude) = amounts::coordinate_at(line, ends, 0) else {
         return Asked::Unreadable;
     };
-    let Signed64::Number(longitude) = amounts::coordinate_at(line, 1) else {
+    let Signed64::Number(longitude) = amounts::coordinate_at(line, ends, 1) else {
         return Asked::Unreadable;
     };
-    let AltitudeRead::Read(altitude) = amounts::altitude_at(line, 2) else {
+    let AltitudeRead::Read(altitude) = amounts::altitude_at(line, ends, 2) else {
         return Asked::Unreadable;
     };
-    let HorizontalRead::Read(horizontal) = horizontal_in(line) else {
+    let HorizontalRead::Read(horizontal) = horizontal_in(line, ends) else {
         return Asked::Unreadable;
     };
-    let UncertaintyRead::Read(altitude_uncertainty) = uncertainty_in(line) else {
+    let UncertaintyRead::Read(altitude_uncertainty) = uncertainty_in(line, ends) else {
         return Asked::Unreadable;
     };
-    let ConfidenceRead::Read(confidence) = confidence_in(line) else {
+    let ConfidenceRead::Read(confidence) = confidence_in(line, ends) else {
         return Asked::Unreadable;
     };
     Asked::Request(Request {
@@ -74,13 +82,13 @@ pub fn request_in(line: &[u8]) -> Asked
 }
 
 // The horizontal uncertainty, in fields 3, 4 and 5.
-fn horizontal_in(line: &[u8]) -> HorizontalRead
-    requires { ⌜ length (fieldsOf (now line)) ≡ 8 ⌝ }
+fn horizontal_in(line: &[u8], ends: &[usize; 8]) -> HorizontalRead
+    requires { ⌜ Eight (now line) (now ends) ⌝ }
     ensures { λ r. ⌜ ReadsHorizontal (fieldAt (now (line .entry)) 3) (fieldAt (now (line .entry)) 4) (fieldAt (now (line .entry)) 5) r ⌝ }
 {
-    let semi_major = amounts::amount_at(line, 3);
-    let semi_minor = amounts::amount_at(line, 4);
-    let orientation = amounts::amount_at(line, 5);
+    let semi_major = amounts::amount_at(line, ends, 3);
+    let semi_minor = amounts::amount_at(line, ends, 4);
+    let orientation = amounts::amount_at(line, ends, 5);
     horizontal_of(semi_major, semi_minor, orientation)
 }
 
@@ -133,11 +141,11 @@ fn no_area_of(semi_minor: Amount, orientation: Amount) -> HorizontalRead
 }
 
 // The altitude uncertainty, in field 6.
-fn uncertainty_in(line: &[u8]) -> UncertaintyRead
-    requires { ⌜ length (fieldsOf (now line)) ≡ 8 ⌝ }
+fn uncertainty_in(line: &[u8], ends: &[usize; 8]) -> UncertaintyRead
+    requires { ⌜ Eight (now line) (now ends) ⌝ }
     ensures { λ r. ⌜ ReadsUncertainty (fieldAt (now (line .entry)) 6) r ⌝ }
 {
-    match amounts::amount_at(line, 6) {
+    match amounts::amount_at(line, ends, 6) {
         Amount::Number(uncertainty) => {
             UncertaintyRead::Read(AltitudeUncertainty::Asked(Millimetres(uncertainty)))
         }
@@ -147,11 +155,11 @@ fn uncertainty_in(line: &[u8]) -> UncertaintyRead
 }
 
 // The confidence, in field 7.
-fn confidence_in(line: &[u8]) -> ConfidenceRead
-    requires { ⌜ length (fieldsOf (now line)) ≡ 8 ⌝ }
+fn confidence_in(line: &[u8], ends: &[usize; 8]) -> ConfidenceRead
+    requires { ⌜ Eight (now line) (now ends) ⌝ }
     ensures { λ r. ⌜ ReadsConfidence (fieldAt (now (line .entry)) 7) r ⌝ }
 {
-    match amounts::amount_at(line, 7) {
+    match amounts::amount_at(line, ends, 7) {
         Amount::Number(per_cent) => ConfidenceRead::Read(Confidence::PerCent(per_cent)),
         Amount::Absent => ConfidenceRead::Read(Confidence::Missing),
         Amount::Unreadable => ConfidenceRead::Unreadable,

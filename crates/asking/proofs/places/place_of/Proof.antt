@@ -1,17 +1,44 @@
--- From its start to the next space or the end.
-use Rattle.asking.proofs.FieldLaws.{stands}
+-- Past the end of the field before it.
+use mathlib.Core.Path.{refl}
+use native.Mathlib.Omega.{arith}
+use Rattle.asking.proofs.FieldLaws.{start-past}
 use borrow.Author.Needs.{needs}
 use Rattle.asking.proofs.places.place_of.Statement.{statement}
 use Rattle.asking.proofs.places.place_of.Tie as tie
 
-start-of-requires : tie.Need-start-of-requires
-start-of-requires c κs = search needs
+mul-end : tie.Need-mul-end
+mul-end c = search needs
 
-field-end-requires : tie.Need-field-end-requires
-field-end-requires c κs = search needs
+element-copy-out-end : tie.Need-element-copy-out-end
+element-copy-out-end c = search needs
 
 returns : tie.Need-returns
-returns c = stands (c .before .start-of .ensures) (c .field-end .ensures)
+returns c = search needs
+
+sub-t4 : tie.Need-sub-t4
+sub-t4 c = search needs
+
+mul-t7 : tie.Need-mul-t7
+mul-t7 c = search needs
+
+element-copy-out-t11 : tie.Need-element-copy-out-t11
+element-copy-out-t11 c = search needs
+
+add-t12 : tie.Need-add-t12
+add-t12 c = omega (arith, start-past (c .before .before .before .args .ends .now) (c .before .before .before .args .number) (omega arith))
+
+returns-2 : tie.Need-returns-2
+returns-2 c = (start-past (c .before .before .before .args .ends .now) (c .before .before .before .args .number) (omega arith), refl)
 
 pub place-of-spec : {M : Type 1} → statement M
-place-of-spec = tie.close (tie.spec start-of-requires field-end-requires returns)
+place-of-spec =
+    tie.close
+    (tie.spec
+    mul-end
+    element-copy-out-end
+    returns
+    sub-t4
+    mul-t7
+    element-copy-out-t11
+    add-t12
+    returns-2)
