@@ -15,7 +15,7 @@ use mir.Val.{SFits}
 use borrow.Author.Tests.{lt-ltb, le-ltb, ltb-true, ltb-false}
 use Rattle.ground.specs.Signs.{partsOf}
 use Rattle.ground.specs.declared.signs.Parts.{Parts}
-use Rattle.text.specs.Text.{decimalIn, decimal, pair, signedDecimal, Puts}
+use Rattle.text.specs.Text.{decimalIn, decimal, pair, four, signedDecimal, Puts}
 
 -- text put after text is the two in a row
 pub sets-append : (l : List ℕ) (i : ℕ) (a b : List ℕ) → sets (sets l i a) (i + length a) b ≡ sets l i (a ++ b)
@@ -84,6 +84,23 @@ decimal-pairs {n} h =
     ∙ ap (λ (t : List ℕ). t ++ ((48 + n % 10) ∷ [])) (decimal-more (omega arith))
     ∙ append-assoc (decimal (n / 10 / 10)) ((48 + n / 10 % 10) ∷ []) ((48 + n % 10) ∷ [])
     ∙ (λ i. decimal (a i) ++ ((48 + b i) ∷ (48 + c i) ∷ []))
+
+-- three digits, four digits, and by four digits
+pub decimal-three : {n : ℕ} → 100 ≤ n → n < 1000 → decimal n ≡ (48 + n / 100) ∷ pair (n % 100)
+decimal-three {n} h l = decimal-pairs h ∙ ap (λ (t : List ℕ). t ++ pair (n % 100)) (decimal-small (omega arith))
+
+pub decimal-four : {n : ℕ} → 1000 ≤ n → n < 10000 → decimal n ≡ four n
+decimal-four {n} h l = decimal-pairs (omega arith) ∙ ap (λ (t : List ℕ). t ++ pair (n % 100)) (decimal-pair (omega arith) (omega arith))
+
+pub decimal-fours : {n : ℕ} → 10000 ≤ n → decimal n ≡ decimal (n / 10000) ++ four (n % 10000)
+decimal-fours {n} h =
+    let a : n / 100 / 100 ≡ n / 10000 = omega arith in
+    let b : n / 100 % 100 ≡ n % 10000 / 100 = omega arith in
+    let c : n % 100 ≡ n % 10000 % 100 = omega arith in
+    decimal-pairs (omega arith)
+    ∙ ap (λ (t : List ℕ). t ++ pair (n % 100)) (decimal-pairs (omega arith))
+    ∙ append-assoc (decimal (n / 100 / 100)) (pair (n / 100 % 100)) (pair (n % 100))
+    ∙ (λ i. decimal (a i) ++ (pair (b i) ++ pair (c i)))
 
 -- n has at most k digits where it is below 10 ^ k
 pub decimal-length : (k n : ℕ) → n < 10 ^ suc k → length (decimal n) ≤ suc k

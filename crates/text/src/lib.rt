@@ -3,7 +3,7 @@ use ground::Whole;
 ghost use mathlib.Core.List.{[], _∷_};
 ghost use Prim.Native.Nat.{_+_, _≤_, _<_};
 ghost use lib.ListN.{length};
-ghost use Rattle.text.specs.Text.{Puts, decimal, pair, signedDecimal};
+ghost use Rattle.text.specs.Text.{Puts, decimal, pair, four, signedDecimal};
 
 // Puts one octet at `at`, and answers the place after it.
 pub fn put_byte(out: &mut [u8], at: usize, b: u8) -> usize
@@ -14,8 +14,21 @@ pub fn put_byte(out: &mut [u8], at: usize, b: u8) -> usize
     at + 1
 }
 
-// Puts n in decimal, two digits a step, and answers the place after it.
+// Puts n in decimal, four digits a step, and answers the place after it.
 pub fn put_decimal(out: &mut [u8], at: usize, n: u64) -> usize
+    requires { ⌜ at + length (decimal n) ≤ length (now out) ⌝ }
+    ensures { λ r. ⌜ Puts (now (out .entry)) at (decimal n) (now (out .exit)) r ⌝ }
+{
+    if n < 10000 {
+        return put_short(out, at, n);
+    }
+    let next = put_decimal(out, at, n / 10000);
+    put_four(out, next, n % 10000)
+}
+
+// Puts a number of at most four digits.
+fn put_short(out: &mut [u8], at: usize, n: u64) -> usize
+    requires { ⌜ n < 10000 ⌝ }
     requires { ⌜ at + length (decimal n) ≤ length (now out) ⌝ }
     ensures { λ r. ⌜ Puts (now (out .entry)) at (decimal n) (now (out .exit)) r ⌝ }
 {
@@ -25,7 +38,20 @@ pub fn put_decimal(out: &mut [u8], at: usize, n: u64) -> usize
     if n < 100 {
         return put_pair(out, at, n);
     }
-    let next = put_decimal(out, at, n / 100);
+    if n < 1000 {
+        let next = put_byte(out, at, (48 + n / 100) as u8);
+        return put_pair(out, next, n % 100);
+    }
+    put_four(out, at, n)
+}
+
+// Puts four digits.
+fn put_four(out: &mut [u8], at: usize, n: u64) -> usize
+    requires { ⌜ n < 10000 ⌝ }
+    requires { ⌜ at + 4 ≤ length (now out) ⌝ }
+    ensures { λ r. ⌜ Puts (now (out .entry)) at (four n) (now (out .exit)) r ⌝ }
+{
+    let next = put_pair(out, at, n / 100);
     put_pair(out, next, n % 100)
 }
 
