@@ -382,32 +382,41 @@ static int64_t signed_at_random(int64_t x)
     return one_in(2) ? -x : x;
 }
 
+// A coordinate of either sign: at an end, out of range, anywhere up to the most, or about where a code starts.
+static int64_t some_coordinate(int64_t end, int64_t beyond, int64_t most, int64_t (*start)(uint32_t code))
+{
+    if (one_in(60))
+        return one_in(8) ? INT64_MIN : signed_at_random(beyond);
+    if (one_in(6))
+        return signed_at_random(end);
+    uint32_t code = one_in(8) ? below(8) : one_in(8) ? 8388607 - below(8) : (uint32_t)chance() & 8388607;
+    if (one_in(3))
+        return signed_at_random((int64_t)(chance() % (uint64_t)(most + 1)));
+    return signed_at_random(around(start(code)));
+}
+
+static int64_t north(uint32_t code)
+{
+    return latitude_of(0, code);
+}
+
+static int64_t east(uint32_t code)
+{
+    return longitude_of((int32_t)code);
+}
+
 static int64_t some_latitude(void)
 {
     static const int64_t ends[] = {0, 1, 2, 10727, 10728, 10729, 21457, 21458, 89999989270, 89999989271, 89999989272, 90000000000};
     static const int64_t beyond[] = {90000000001, 90000000002, 180000000000, 8589934592, INT64_MAX};
-    if (one_in(60))
-        return one_in(8) ? INT64_MIN : signed_at_random(PICK(beyond));
-    if (one_in(6))
-        return signed_at_random(PICK(ends));
-    uint32_t code = one_in(8) ? below(8) : one_in(8) ? 8388607 - below(8) : (uint32_t)chance() & 8388607;
-    if (one_in(3))
-        return signed_at_random((int64_t)(chance() % 90000000001u));
-    return signed_at_random(around(latitude_of(0, code)));
+    return some_coordinate(PICK(ends), PICK(beyond), NINETY_DEGREES, north);
 }
 
 static int64_t some_longitude(void)
 {
     static const int64_t ends[] = {0, 1, 2, 21456, 21457, 21458, 21459, 42915, 179999978542, 179999978543, 179999999999, 180000000000};
     static const int64_t beyond[] = {180000000001, 180000000002, 360000000000, 17179869184, INT64_MAX};
-    if (one_in(60))
-        return one_in(8) ? INT64_MIN : signed_at_random(PICK(beyond));
-    if (one_in(6))
-        return signed_at_random(PICK(ends));
-    uint32_t code = one_in(8) ? below(8) : one_in(8) ? 8388607 - below(8) : (uint32_t)chance() & 8388607;
-    if (one_in(3))
-        return signed_at_random((int64_t)(chance() % 180000000001u));
-    return signed_at_random(around(longitude_of((int32_t)code)));
+    return some_coordinate(PICK(ends), PICK(beyond), HALF_TURN, east);
 }
 
 static int64_t some_altitude(void)

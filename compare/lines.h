@@ -93,4 +93,24 @@ static inline void put_choice(uint64_t number, int readable, enum answer answer,
     output_end = at;
 }
 
+// Answers every line of the input: the first is the receiver's list, the others are requests.
+static inline void answer_requests(enum answer (*chooser)(const struct request *, uint32_t, uint8_t *, size_t, size_t *))
+{
+    const uint8_t *line;
+    size_t length;
+    uint32_t list = next_line(&line, &length) ? parse_list(line, length) : 0;
+    uint64_t count = 0;
+    while (next_line(&line, &length)) {
+        struct request request;
+        uint8_t message[16];
+        size_t octets = 0;
+        enum answer answer = DONE;
+        int readable = parse_request(line, length, &request);
+        if (readable)
+            answer = chooser(&request, list, message, sizeof message, &octets);
+        put_choice(++count, readable, answer, message, octets);
+    }
+    put_end(count);
+}
+
 #endif

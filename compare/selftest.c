@@ -82,6 +82,33 @@ static int written(const uint8_t *buffer, const uint8_t *message, size_t length)
     return same(buffer, message, length);
 }
 
+// A message that is written again: what it is with its spare bits zero, and a buffer that shows what was touched.
+struct rewriting {
+    uint8_t message[100];
+    uint8_t buffer[100];
+    size_t length;
+    size_t count;
+};
+
+static struct rewriting rewriting_of(const uint8_t *octets, size_t length, uint32_t kind)
+{
+    struct rewriting r = {.length = length, .count = 99};
+    memcpy(r.message, octets, length);
+    clear_spare(r.message, kind);
+    memset(r.buffer, 0xA5, sizeof r.buffer);
+    return r;
+}
+
+static void expect_short(const struct rewriting *r, enum answer answer)
+{
+    expect(answer == SHORT_BUFFER && r->count == 0 && written(r->buffer, r->message, 0), "a short buffer is 10");
+}
+
+static void expect_written(const struct rewriting *r, enum answer answer)
+{
+    expect(answer == DONE && r->count == r->length && written(r->buffer, r->message, r->length), "written again");
+}
+
 static void check_shape_trip(const uint8_t *octets, size_t length)
 {
     struct shape shape, again;
@@ -93,13 +120,11 @@ static void check_shape_trip(const uint8_t *octets, size_t length)
         expect(memcmp(&shape, &nothing, sizeof shape) == 0, "a refused record is nothing");
         return;
     }
-    uint8_t message[100] = {0}, buffer[100];
-    memcpy(message, octets, length);
-    clear_spare(message, 0);
-    size_t count = 99;
-    memset(buffer, 0xA5, sizeof buffer);
-    expect(write_shape(&shape, buffer, length - 1, &count) == SHORT_BUFFER && count == 0 && written(buffer, message, 0), "a short buffer is 10");
-    expect(write_shape(&shape, buffer, sizeof buffer, &count) == DONE && count == length && written(buffer, message, length), "written again");
+    struct rewriting r = rewriting_of(octets, length, 0);
+    enum answer refused = write_shape(&shape, r.buffer, length - 1, &r.count);
+    expect_short(&r, refused);
+    enum answer done = write_shape(&shape, r.buffer, sizeof r.buffer, &r.count);
+    expect_written(&r, done);
     struct shape_quantities quantities;
     expect(report_shape(&shape, &quantities) == DONE, "reported");
     if (shape.semi_minor > shape.semi_major) {
@@ -116,13 +141,11 @@ static void check_velocity_trip(const uint8_t *octets, size_t length)
         expect(velocity.type == NOTHING && velocity.bearing == 0 && velocity.horizontal_speed == 0, "a refused record is nothing");
         return;
     }
-    uint8_t message[100] = {0}, buffer[100];
-    memcpy(message, octets, length);
-    clear_spare(message, 1);
-    size_t count = 99;
-    memset(buffer, 0xA5, sizeof buffer);
-    expect(write_velocity(&velocity, buffer, length - 1, &count) == SHORT_BUFFER && count == 0 && written(buffer, message, 0), "a short buffer is 10");
-    expect(write_velocity(&velocity, buffer, sizeof buffer, &count) == DONE && count == length && written(buffer, message, length), "written again");
+    struct rewriting r = rewriting_of(octets, length, 1);
+    enum answer refused = write_velocity(&velocity, r.buffer, length - 1, &r.count);
+    expect_short(&r, refused);
+    enum answer done = write_velocity(&velocity, r.buffer, sizeof r.buffer, &r.count);
+    expect_written(&r, done);
     struct velocity_quantities quantities;
     expect(report_velocity(&velocity, &quantities) == DONE, "reported");
     expect(code_velocity(&quantities, &again) == DONE && memcmp(&velocity, &again, sizeof velocity) == 0, "reported and coded again");

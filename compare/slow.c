@@ -266,8 +266,9 @@ static int outside(int64_t x, int64_t limit)
     return x > limit || x < -limit;
 }
 
-static enum answer search(const struct request *q, uint32_t list, uint8_t *message, size_t *length)
+static enum answer search(const struct request *q, uint32_t list, uint8_t *message, size_t room, size_t *length)
 {
+    (void)room; // always that of the longest message
     *length = 0;
     if (outside(q->centre.latitude, NINETY_DEGREES) || outside(q->centre.longitude, HALF_TURN)
         || (q->horizontal == ASKED_ELLIPSE && q->orientation >= 180000)
@@ -300,20 +301,6 @@ int main(void)
 {
     prepare_rule(&horizontal_rule, 10000, 11, 10);
     prepare_rule(&vertical_rule, 45000, 41, 40);
-    const uint8_t *line;
-    size_t length;
-    uint32_t list = next_line(&line, &length) ? parse_list(line, length) : 0;
-    uint64_t count = 0;
-    while (next_line(&line, &length)) {
-        struct request request;
-        uint8_t message[16];
-        size_t octets = 0;
-        enum answer answer = DONE;
-        int readable = parse_request(line, length, &request);
-        if (readable)
-            answer = search(&request, list, message, &octets);
-        put_choice(++count, readable, answer, message, octets);
-    }
-    put_end(count);
+    answer_requests(search);
     return 0;
 }

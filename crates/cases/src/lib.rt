@@ -1,15 +1,11 @@
-// What the test programs share: octets as hexadecimal digits, the numbers of a line, the kinds of type numbers, and the parts
-// of an answer. Nothing of the product stands on it.
+// What the test programs share: octets as hexadecimal digits, the numbers of a line, and the parts of an answer. Nothing of the
+// product stands on it.
 mod hex;
-mod kinds;
 mod numbers;
 mod output;
 
 pub use hex::octets_in;
-pub use kinds::kind_of;
-pub use kinds::velocity_kind_of;
 pub use numbers::natural;
-pub use numbers::number_at;
 pub use numbers::numbers_in;
 pub use numbers::octet;
 pub use numbers::room;

@@ -1,6 +1,5 @@
 // The numbers of a line.
 use ground::Whole;
-use numerals::Numeral;
 use numerals::Signed32;
 ghost use mathlib.Core.Path.{_≡_};
 ghost use Prim.Native.Nat.{_≤_};
@@ -35,30 +34,6 @@ fn number(field: &[u8]) -> i32 {
     n
 }
 
-// What the field of that number, from 0, writes. A line that has no such field writes nothing there.
-pub fn number_at(line: &[u8], number: usize) -> Numeral {
-    let from = start_of(line, number);
-    let end = numerals::field_end(line, from);
-    numerals::number_in(&line[from..end])
-}
-
-// Where that field starts, or the line's length.
-fn start_of(line: &[u8], number: usize) -> usize
-    ensures { λ r. ⌜ r ≤ length (now (line .entry)) ⌝ }
-{
-    let mut from = 0;
-    let mut passed = 0;
-    while passed < number {
-        let end = numerals::field_end(line, from);
-        if end == line.len() {
-            return end;
-        }
-        from = end + 1;
-        passed += 1;
-    }
-    from
-}
-
 // A code's number: as it stands where its type holds it, else the largest that it holds.
 pub fn octet(n: i32) -> u8
     ensures { λ r. ⌜ r ≤ 255 ⌝ }
@@ -90,7 +65,9 @@ pub fn natural(n: i32) -> u32
     size as u32
 }
 
-pub fn whole(n: i32) -> Whole {
+pub fn whole(n: i32) -> Whole
+    ensures { λ r. ⌜ r .0 ≡ n ⌝ }
+{
     Whole(n as i64)
 }
 

@@ -9,7 +9,6 @@ ghost use Prim.Native.Nat.{_+_, _≤_};
 ghost use lib.ListN.{length};
 ghost use Rattle.text.specs.Text.{PutsWithin};
 ghost use Rattle.fields.specs.Fields as field;
-ghost use Rattle.layout.specs.Layout.{velocityTypeOf};
 ghost use Rattle.quantities.specs.Velocities.{TakesVelocity};
 ghost use Rattle.words.specs.Words.{codeText};
 ghost use Rattle.courses.specs.Courses.{velocityText, motionRest};
@@ -20,7 +19,7 @@ pub fn put_velocity(out: &mut [u8], at: usize, velocity: Velocity) -> usize
     ensures { λ r. ⌜ PutsWithin 680 (now (out .entry)) at (velocityText velocity) (now (out .exit)) r ⌝ }
 {
     let kind = velocity.kind;
-    let a = words::put_head(out, at, type_number(kind));
+    let a = words::put_head(out, at, layout::velocity_type_number(kind));
     let b = words::put_natural(out, a, spoken::bearing(velocity.bearing).0);
     let c = words::put_natural(
         out,
@@ -28,18 +27,6 @@ pub fn put_velocity(out: &mut [u8], at: usize, velocity: Velocity) -> usize
         speeds::reported_horizontal_speed(velocity.horizontal_speed).0,
     );
     put_rest(out, c, velocity)
-}
-
-fn type_number(kind: VelocityKind) -> u8
-    ensures { λ r. ⌜ r ≡ velocityTypeOf kind ⌝ }
-{
-    match kind {
-        VelocityKind::Nothing => 0,
-        VelocityKind::Horizontal => 0,
-        VelocityKind::HorizontalVertical => 1,
-        VelocityKind::HorizontalUncertain => 2,
-        VelocityKind::HorizontalVerticalUncertain => 3,
-    }
 }
 
 // Puts what the kind has after the bearing and the horizontal speed.

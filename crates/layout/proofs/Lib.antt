@@ -6,3 +6,4 @@ pub mod KindLaws
 pub mod MessageLaws
 pub mod VelocityMessageLaws
 pub mod WriteLaws
+pub mod TypeLaws

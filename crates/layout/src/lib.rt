@@ -11,12 +11,15 @@ pub use shapes::Shape;
 pub use shapes::ShapeRead;
 pub use shapes::blank_shape;
 pub use shapes::first_octet;
+pub use shapes::kind_of;
 pub use shapes::message_length;
 pub use shapes::type_number;
 pub use velocities::Velocity;
 pub use velocities::VelocityKind;
 pub use velocities::VelocityRead;
 pub use velocities::blank_velocity;
+pub use velocities::velocity_kind_of;
+pub use velocities::velocity_type_number;
 
 // What writing a record answers: the number of octets of its message, 0 where it is refused.
 pub struct Written {

@@ -14,7 +14,7 @@ ghost use mathlib.Core.Path.{_≡_};
 ghost use Prim.Native.Nat.{_*_};
 ghost use Rattle.layout.specs.Layout.{typeOf, shapeRows};
 ghost use Rattle.layout.specs.Rows.{lengthOf};
-ghost use Rattle.layout.specs.Shapes.{blankShape};
+ghost use Rattle.layout.specs.Shapes.{blankShape, kindOf};
 
 pub enum Kind {
     // no shape: the record of a refusal
@@ -75,6 +75,22 @@ pub fn blank_shape(kind: Kind) -> Shape
         count: 0,
         latitudes: [LatitudeCode(false, 0); 15],
         longitudes: [LongitudeCode(0); 15],
+    }
+}
+
+// The kind of a type's number.
+pub fn kind_of(number: u8) -> Kind
+    ensures { λ r. ⌜ r ≡ kindOf number ⌝ }
+{
+    match number {
+        0 => Kind::Point,
+        1 => Kind::Circle,
+        3 => Kind::Ellipse,
+        5 => Kind::Polygon,
+        8 => Kind::AltitudePoint,
+        9 => Kind::AltitudeEllipsoid,
+        10 => Kind::Arc,
+        _ => Kind::Nothing,
     }
 }
 

@@ -43,7 +43,7 @@ fn print_into(buffer: &mut [u8], shape: Shape) {
 // The record of the numbers after the room: its type, its codes in the record's order, its count. Every point is zero.
 fn shape_of(values: [i32; 64]) -> Shape {
     Shape {
-        kind: cases::kind_of(cases::octet(values[1])),
+        kind: layout::kind_of(cases::octet(values[1])),
         latitude: LatitudeCode(values[2] == 1, cases::natural(values[3])),
         longitude: LongitudeCode(values[4]),
         altitude: AltitudeCode(values[5] == 1, cases::word(values[6])),

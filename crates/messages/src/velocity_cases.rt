@@ -37,7 +37,7 @@ fn print_into(buffer: &mut [u8], velocity: Velocity) {
 // The record of the numbers after the room.
 fn velocity_of(values: [i32; 64]) -> Velocity {
     Velocity {
-        kind: cases::velocity_kind_of(cases::octet(values[1])),
+        kind: layout::velocity_kind_of(cases::octet(values[1])),
         bearing: BearingCode(cases::word(values[2])),
         horizontal_speed: HorizontalSpeedCode(cases::word(values[3])),
         vertical_speed: VerticalSpeedCode(values[4] == 1, cases::octet(values[5])),

@@ -1,3 +1,2 @@
 pub mod AnswerKinds
-pub mod TypeNumbers
 pub mod ReadLaws

@@ -1,6 +1,5 @@
 // Octets to a shape's record: document 01, "Octet layouts" and "Refusal numbers".
 mod answers;
-mod kinds;
 
 use ground::Outcome;
 use ground::Refusal;
@@ -18,7 +17,7 @@ pub fn read_shape(s: &[u8]) -> ShapeRead
         return refused(Refusal::NoOctets);
     }
     let first = octets::octet(s, 0);
-    let kind = kinds::kind_of(first);
+    let kind = layout::kind_of(first / 16);
     let n = first % 16;
     if let Outcome::Refused(why) = answers::outcome(s.len(), kind, n) {
         return refused(why);

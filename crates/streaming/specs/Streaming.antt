@@ -1,4 +1,5 @@
 -- What is kept of the input and of the answers. Assumes nothing.
+use mathlib.Core.Path.{_≡_}
 use Prim.Native.Nat.{ℕ, _+_, _≤_, min}
 use Rattle.streaming.specs.declared.input.Input.{Input}
 use Rattle.streaming.specs.declared.output.Output.{Output}
@@ -10,6 +11,11 @@ pub record SoundInput (i : Input) : Type 0 where
 
 pub record SoundOutput (o : Output) : Type 0 where
   pub answers : o .put ≤ 4096
+
+-- no answers are left to write, and as many lines are answered; whether a write failed is the system's to say
+pub record Emptied (before after : Output) : Type 0 where
+  pub none-left : after .put ≡ 0
+  pub same-lines : after .answered ≡ before .answered
 
 -- one line more, at most what 64 bits can count
 abbrev pub oneMore : ℕ → ℕ

@@ -2,7 +2,7 @@
 ghost use Prim.Native.Nat.{_+_, _≤_};
 ghost use lib.ListN.{length};
 ghost use mathlib.Core.Path.{_≡_};
-ghost use Rattle.streaming.specs.Streaming.{SoundOutput, oneMore};
+ghost use Rattle.streaming.specs.Streaming.{SoundOutput, Emptied, oneMore};
 
 // Answers are written before they take more octets.
 const ROOM: usize = 4096;
@@ -56,19 +56,32 @@ pub fn counted(answered: u64) -> u64
     answered
 }
 
-// Writes the answers that are left, and the number of lines.
-pub fn write_end(out: &mut [u8; 4096], output: Output)
+// Writes the answers that are left, and the number of lines. Nothing is written after a write that failed.
+pub fn write_end(out: &mut [u8; 4096], output: Output) -> Output
     requires { ⌜ SoundOutput output ⌝ }
+    ensures { λ r. ⌜ Emptied output r ⌝ }
 {
     if output.closed {
-        return;
+        return emptied(output, true);
     }
     let left = make_room(out, output, LONGEST_END);
     if left.closed {
-        return;
+        return emptied(output, true);
     }
     let put = printing::put_end(out, left.put, left.answered);
-    written(out, put);
+    let done = written(out, put);
+    emptied(output, !done)
+}
+
+// No answers are left to write.
+fn emptied(output: Output, closed: bool) -> Output
+    ensures { λ r. ⌜ Emptied output r ⌝ }
+{
+    Output {
+        put: 0,
+        answered: output.answered,
+        closed,
+    }
 }
 
 // Writes the answers that are put, and says whether that was done.

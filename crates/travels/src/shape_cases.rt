@@ -12,7 +12,7 @@ use quantities::ShapeQuantities;
 
 // The quantities of a case: the type's number, the count, the quantities of the single point's shapes, the points.
 pub fn shape_in(case: &[u8]) -> ShapeQuantities {
-    let kind = cases::kind_of(fields::octet_at(case, 0));
+    let kind = layout::kind_of(fields::octet_at(case, 0));
     let confidence = fields::confidence_at(case, 10);
     let latitudes = fields::coordinates_at(case, 14);
     let longitudes = fields::coordinates_at(case, 15);

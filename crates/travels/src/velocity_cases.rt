@@ -6,12 +6,11 @@ use ground::Outcome;
 use ground::SignedMetresPerHour;
 use ground::UncertaintySpeed;
 use layout::Velocity;
-use layout::VelocityKind;
 use quantities::VelocityQuantities;
 
 // The quantities of a case, after the type's number.
 pub fn velocity_in(case: &[u8]) -> VelocityQuantities {
-    let kind = cases::velocity_kind_of(fields::octet_at(case, 0));
+    let kind = layout::velocity_kind_of(fields::octet_at(case, 0));
     let uncertainty = fields::uncertainty_speed_at(case, 4);
     let vertical_uncertainty = fields::uncertainty_speed_at(case, 5);
     VelocityQuantities {
@@ -52,22 +51,12 @@ fn print_quantities(quantities: VelocityQuantities) {
     let kind = quantities.kind;
     let uncertainty = quantities.uncertainty;
     let vertical_uncertainty = quantities.vertical_uncertainty;
-    cases::print_number(type_number(kind));
+    cases::print_number(layout::velocity_type_number(kind) as u64);
     cases::print_natural(quantities.bearing.0);
     cases::print_natural(quantities.horizontal_speed.0);
     cases::print_signed(cases::whole(quantities.vertical_speed.0));
     print_uncertainty(uncertainty);
     print_uncertainty(vertical_uncertainty);
-}
-
-fn type_number(kind: VelocityKind) -> u64 {
-    match kind {
-        VelocityKind::Nothing => 15,
-        VelocityKind::Horizontal => 0,
-        VelocityKind::HorizontalVertical => 1,
-        VelocityKind::HorizontalUncertain => 2,
-        VelocityKind::HorizontalVerticalUncertain => 3,
-    }
 }
 
 fn print_uncertainty(uncertainty: UncertaintySpeed) {

@@ -23,7 +23,7 @@ pub fn read_velocity(s: &[u8]) -> VelocityRead
         return refused(Refusal::NoOctets);
     }
     let first = octets::octet(s, 0);
-    let kind = kinds::kind_of(first);
+    let kind = layout::velocity_kind_of(first / 16);
     if let Outcome::Refused(why) = answers::of_message(s.len(), kind) {
         return refused(why);
     }

@@ -12,8 +12,8 @@ use borrow.Author.Needs.{needs}
 use Rattle.courses.proofs.put_velocity.Statement.{statement}
 use Rattle.courses.proofs.put_velocity.Tie as tie
 
-type-number-requires : tie.Need-type-number-requires
-type-number-requires c κs = tt
+velocity-type-number-requires : tie.Need-velocity-type-number-requires
+velocity-type-number-requires c κs = tt
 
 put-head-requires : tie.Need-put-head-requires
 put-head-requires c κs = search needs
@@ -41,7 +41,7 @@ returns c =
     let start = c .before .before .before .before .before .before .before .before .before .before .before .before .before .before .before .before .before .before .before .before in
     let x = start .args .velocity in
     let t = start .pre .1 in
-    let head = worded {n = 22} (omega arith) (ap headText (c .before .before .before .before .before .before .before .before .before .before .before .before .before .before .before .before .before .type-number .ensures)) (c .before .before .before .before .before .before .before .before .before .before .before .before .before .before .before .before .put-head .ensures) in
+    let head = worded {n = 22} (omega arith) (ap headText (c .before .before .before .before .before .before .before .before .before .before .before .before .before .before .before .before .before .velocity-type-number .ensures)) (c .before .before .before .before .before .before .before .before .before .before .before .before .before .before .before .before .put-head .ensures) in
     let said = c .before .before .before .before .before .before .before .before .before .before .before .before .bearing in
     let bearing = reported field.bearing (x .bearing) (said .result) (velocity-held x t place.bearing) (said .ensures) (c .before .before .before .before .before .before .before .before .before .before .before .put-natural .ensures) in
     let said = c .before .before .before .before .before .before .before .reported-horizontal-speed in
@@ -52,7 +52,7 @@ pub put-velocity-spec : {M : Type 1} → statement M
 put-velocity-spec =
     tie.close
     (tie.spec
-    type-number-requires
+    velocity-type-number-requires
     put-head-requires
     bearing-requires
     put-natural-requires

@@ -13,11 +13,11 @@ use Rattle.velocities.proofs.read_velocity.Statement.{statement}
 use Rattle.velocities.proofs.read_velocity.Tie as tie
 
 -- what the first octet says
-some : (c : tie.After-kind-of) → 0 < length (now (c .before .before .before .before .args .s))
+some : (c : tie.After-velocity-kind-of) → 0 < length (now (c .before .before .before .before .args .s))
 some c = omega (arith, c .before .before .if1 .left)
 
-kind : (c : tie.After-kind-of) → c .kind-of .result ≡ velocityKindIn (now (c .before .before .before .before .args .s))
-kind c = kind-in _ _ (c .before .octet .ensures) _ (c .kind-of .ensures)
+kind : (c : tie.After-velocity-kind-of) → c .velocity-kind-of .result ≡ velocityKindIn (now (c .before .before .before .before .args .s))
+kind c = kind-in _ _ (c .before .octet .ensures) _ (c .velocity-kind-of .ensures)
 
 refused-requires : tie.Need-refused-requires
 refused-requires c κs = search needs
@@ -28,8 +28,8 @@ returns c = refused-read (now (c .before .before .before .args .s)) _ _ (unmet (
 octet-requires : tie.Need-octet-requires
 octet-requires c κs = search needs
 
-kind-of-requires : tie.Need-kind-of-requires
-kind-of-requires c κs = search needs
+velocity-kind-of-requires : tie.Need-velocity-kind-of-requires
+velocity-kind-of-requires c κs = search needs
 
 of-message-requires : tie.Need-of-message-requires
 of-message-requires c κs = search needs
@@ -65,7 +65,7 @@ read-velocity-spec =
     refused-requires
     returns
     octet-requires
-    kind-of-requires
+    velocity-kind-of-requires
     of-message-requires
     enum-known-why
     refused-requires-2

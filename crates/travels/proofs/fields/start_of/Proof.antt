@@ -2,8 +2,8 @@
 use Prim.Native.Nat.{_-_, _≤_}
 use lib.ListN.{length}
 use borrow.Author.Needs.{needs}
-use Rattle.cases.proofs.numbers.start_of.Statement.{statement}
-use Rattle.cases.proofs.numbers.start_of.Tie as tie
+use Rattle.travels.proofs.fields.start_of.Statement.{statement}
+use Rattle.travels.proofs.fields.start_of.Tie as tie
 
 abbrev Inv-loop : tie.InvT-loop
 Inv-loop line number from₀ passed₀ from passed = from ≤ length line

@@ -1,7 +1,7 @@
 use mathlib.Core.Path.{sym}
-use Rattle.reading.proofs.TypeNumbers.{no-kind}
-use Rattle.reading.proofs.kinds.kind_of.Statement.{statement}
-use Rattle.reading.proofs.kinds.kind_of.Tie as tie
+use Rattle.layout.proofs.TypeLaws.{no-kind}
+use Rattle.layout.proofs.shapes.kind_of.Statement.{statement}
+use Rattle.layout.proofs.shapes.kind_of.Tie as tie
 
 returns : tie.Need-returns
 returns c = rw (c .match .keys1)
