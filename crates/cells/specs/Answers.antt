@@ -1,0 +1,32 @@
+-- WHAT A FUNCTION OF THE LIBRARY HANDS BACK. Assumes nothing.
+use mathlib.Core.Path.{_≡_}
+use mathlib.Core.Bool.{cond}
+use mathlib.Core.List.{List, _++_}
+use Prim.Native.Nat.{ℕ, _-_, _<_, _≤_}
+use lib.Dec.{ltb}
+use lib.IntN.{ℤ, pos, negsuc}
+use lib.ListN.{length, drop}
+use Rattle.ground.specs.Answers.{numberOf, handed}
+use Rattle.ground.specs.declared.refusals.Outcome.{Outcome}
+use Rattle.ground.specs.declared.refusals.Outcome.the-variants.{Done, Refused}
+use Rattle.ground.specs.declared.refusals.Refusal.the-variants.{BufferTooShort}
+
+-- how many cells or octets are put, or minus the number of the refusal (`negsuc k` is -(k + 1))
+abbrev pub answerOf : Outcome → ℕ → ℤ
+answerOf Done put = pos put
+answerOf (Refused why) put = negsuc (numberOf why - 1)
+
+-- 10 where what is done has no room
+abbrev pub givenRoom : Outcome → ℕ → ℕ → Outcome
+givenRoom Done wanted room = cond (ltb room wanted) (Refused BufferTooShort) Done
+givenRoom (Refused why) wanted room = Refused why
+
+-- An answer's cells are put into the first of an array, and its others stay; a refusal, 10 among them, changes none.
+pub record PutsCells {A : Type 0} (outcome : Outcome) (cells before after : List A) (n : ℤ) : Type 0 where
+  pub answer : n ≡ answerOf (givenRoom outcome (length cells) (length before)) (length cells)
+  pub array : after ≡ handed (givenRoom outcome (length cells) (length before)) (cells ++ drop (length cells) before) before
+
+-- Of an array that is given: one that is shorter than its layout is refused with 3; of another it is said, by its first cells.
+pub data OfArray {A B : Type 0} (cells : ℕ) (given : List A) (before after : List B) (n : ℤ) (said : Type 0) : Type 0 where
+  too-short : length given < cells → n ≡ negsuc 2 → after ≡ before → OfArray cells given before after n said
+  long-enough : cells ≤ length given → said → OfArray cells given before after n said

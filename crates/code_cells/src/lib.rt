@@ -1,0 +1,10 @@
+// A record's codes in cells, and in specs/ the record that cells say.
+mod shapes;
+mod velocities;
+
+pub use shapes::put_shape;
+pub use shapes::shape_in;
+pub use shapes::shape_is_whole;
+pub use velocities::put_velocity;
+pub use velocities::velocity_in;
+pub use velocities::velocity_is_whole;

@@ -1,0 +1,164 @@
+// The 61 cells of a shape's codes: type, count, S, latitude, longitude, D, altitude, uncertainty, semi-major, semi-minor, orientation,
+// altitude uncertainty, inner radius, offset, included, confidence; then S, latitude, longitude of fifteen points.
+use ground::AltitudeCode;
+use ground::AltitudeUncertaintyCode;
+use ground::ConfidenceCode;
+use ground::IncludedCode;
+use ground::InnerRadiusCode;
+use ground::LatitudeCode;
+use ground::LongitudeCode;
+use ground::OffsetCode;
+use ground::OrientationCode;
+use ground::UncertaintyCode;
+use layout::Shape;
+ghost use mathlib.Core.Path.{_≡_};
+ghost use mathlib.Core.List.{_++_};
+ghost use Prim.Native.Nat.{_≤_};
+ghost use lib.ListN.{length, drop};
+ghost use Rattle.ground.specs.Answers.{Decides};
+ghost use Rattle.code_cells.specs.Shapes.{shapeCells, singleCells, heldShape, heldLatitude, heldLongitude, Whole, WholePoints};
+ghost use Rattle.layout.specs.Shapes.{upto};
+ghost use lib.Seq.{sets};
+ghost use Rattle.code_cells.specs.Shapes.{pointCells};
+
+// Puts the cells of a record into the first of the array.
+pub fn put_shape(out: &mut [u32], shape: Shape)
+    requires { ⌜ 61 ≤ length (now out) ⌝ }
+    ensures { λ _. ⌜ now (out .exit) ≡ shapeCells shape ++ drop 61 (now (out .entry)) ⌝ }
+{
+    let singles = single_cells(shape);
+    let latitudes = shape.latitudes;
+    let longitudes = shape.longitudes;
+    cells::put_codes(out, &singles);
+    put_points(out, latitudes, longitudes);
+}
+
+// The cells before the points.
+fn single_cells(shape: Shape) -> [u32; 16]
+    ensures { λ r. ⌜ r ≡ singleCells shape ⌝ }
+{
+    let kind = shape.kind;
+    let type_number = layout::type_number(kind);
+    let longitude = shape.longitude;
+    [
+        type_number as u32,
+        shape.count as u32,
+        cells::bit(shape.latitude.0),
+        shape.latitude.1,
+        cells::complement_of(longitude),
+        cells::bit(shape.altitude.0),
+        shape.altitude.1 as u32,
+        shape.uncertainty.0 as u32,
+        shape.semi_major.0 as u32,
+        shape.semi_minor.0 as u32,
+        shape.orientation.0 as u32,
+        shape.altitude_uncertainty.0 as u32,
+        shape.inner_radius.0 as u32,
+        shape.offset.0 as u32,
+        shape.included.0 as u32,
+        shape.confidence.0 as u32,
+    ]
+}
+
+// Puts the cells of the points.
+fn put_points(out: &mut [u32], latitudes: [LatitudeCode; 15], longitudes: [LongitudeCode; 15])
+    requires { ⌜ 61 ≤ length (now out) ⌝ }
+    ensures { λ _. ⌜ now (out .exit) ≡ sets (now (out .entry)) 16 (pointCells latitudes longitudes 15) ⌝ }
+{
+    let mut i = 0;
+    while i < 15 {
+        let latitude = latitudes[i];
+        let longitude = longitudes[i];
+        let at = 16 + 3 * i;
+        out[at] = cells::bit(latitude.0);
+        out[at + 1] = latitude.1;
+        out[at + 2] = cells::complement_of(longitude);
+        i += 1;
+    }
+}
+
+// The record of the cells. A number that its code's type can't hold is taken as the largest that it holds.
+pub fn shape_in(codes: &[u32]) -> Shape
+    requires { ⌜ 61 ≤ length (now codes) ⌝ }
+    ensures { λ r. ⌜ r ≡ heldShape (now (codes .entry)) ⌝ }
+{
+    let kind = layout::kind_of(cells::capped_octet(codes[0]));
+    let latitudes = latitudes_in(codes);
+    let longitudes = longitudes_in(codes);
+    Shape {
+        kind,
+        latitude: LatitudeCode(codes[2] == 1, codes[3]),
+        longitude: cells::longitude_of(codes[4]),
+        altitude: AltitudeCode(codes[5] == 1, cells::capped_word(codes[6])),
+        uncertainty: UncertaintyCode(cells::capped_octet(codes[7])),
+        semi_major: UncertaintyCode(cells::capped_octet(codes[8])),
+        semi_minor: UncertaintyCode(cells::capped_octet(codes[9])),
+        orientation: OrientationCode(cells::capped_octet(codes[10])),
+        altitude_uncertainty: AltitudeUncertaintyCode(cells::capped_octet(codes[11])),
+        inner_radius: InnerRadiusCode(cells::capped_word(codes[12])),
+        offset: OffsetCode(cells::capped_octet(codes[13])),
+        included: IncludedCode(cells::capped_octet(codes[14])),
+        confidence: ConfidenceCode(cells::capped_octet(codes[15])),
+        count: cells::capped_octet(codes[1]),
+        latitudes,
+        longitudes,
+    }
+}
+
+fn latitudes_in(codes: &[u32]) -> [LatitudeCode; 15]
+    requires { ⌜ 61 ≤ length (now codes) ⌝ }
+    ensures { λ r. ⌜ r ≡ upto 15 (heldLatitude (now (codes .entry))) ⌝ }
+{
+    let mut latitudes = [LatitudeCode(false, 0); 15];
+    let mut i = 0;
+    while i < 15 {
+        let at = 16 + 3 * i;
+        latitudes[i] = LatitudeCode(codes[at] == 1, codes[at + 1]);
+        i += 1;
+    }
+    latitudes
+}
+
+fn longitudes_in(codes: &[u32]) -> [LongitudeCode; 15]
+    requires { ⌜ 61 ≤ length (now codes) ⌝ }
+    ensures { λ r. ⌜ r ≡ upto 15 (heldLongitude (now (codes .entry))) ⌝ }
+{
+    let mut longitudes = [LongitudeCode(0); 15];
+    let mut i = 0;
+    while i < 15 {
+        longitudes[i] = cells::longitude_of(codes[18 + 3 * i]);
+        i += 1;
+    }
+    longitudes
+}
+
+// Whether the numbers whose types hold no more than their fields are within them: each sign, and the inner radius.
+pub fn shape_is_whole(codes: &[u32]) -> bool
+    requires { ⌜ 61 ≤ length (now codes) ⌝ }
+    ensures { λ r. ⌜ Decides r (Whole (now (codes .entry))) ⌝ }
+{
+    if 1 < codes[2] {
+        return false;
+    }
+    if 1 < codes[5] {
+        return false;
+    }
+    if 65535 < codes[12] {
+        return false;
+    }
+    points_are_whole(codes)
+}
+
+fn points_are_whole(codes: &[u32]) -> bool
+    requires { ⌜ 61 ≤ length (now codes) ⌝ }
+    ensures { λ r. ⌜ Decides r (WholePoints (now (codes .entry))) ⌝ }
+{
+    let mut i = 0;
+    while i < 15 {
+        if 1 < codes[16 + 3 * i] {
+            return false;
+        }
+        i += 1;
+    }
+    true
+}

@@ -1,0 +1,76 @@
+// The seven cells of a velocity's codes: type, bearing, horizontal speed, D, vertical speed, uncertainty, vertical uncertainty.
+use ground::BearingCode;
+use ground::HorizontalSpeedCode;
+use ground::UncertaintySpeedCode;
+use ground::VerticalSpeedCode;
+use layout::Velocity;
+ghost use mathlib.Core.Path.{_≡_};
+ghost use mathlib.Core.List.{_++_};
+ghost use Prim.Native.Nat.{_≤_};
+ghost use lib.ListN.{length, drop};
+ghost use Rattle.ground.specs.Answers.{Decides};
+ghost use Rattle.code_cells.specs.Velocities.{velocityCells, heldVelocity, WholeVelocity};
+
+// Puts the cells of a record into the first of the array.
+pub fn put_velocity(out: &mut [u32], velocity: Velocity)
+    requires { ⌜ 7 ≤ length (now out) ⌝ }
+    ensures { λ _. ⌜ now (out .exit) ≡ velocityCells velocity ++ drop 7 (now (out .entry)) ⌝ }
+{
+    let all = cells_of(velocity);
+    cells::put_codes(out, &all);
+}
+
+fn cells_of(velocity: Velocity) -> [u32; 7]
+    ensures { λ r. ⌜ r ≡ velocityCells velocity ⌝ }
+{
+    let kind = velocity.kind;
+    let type_number = layout::velocity_type_number(kind);
+    [
+        type_number as u32,
+        velocity.bearing.0 as u32,
+        velocity.horizontal_speed.0 as u32,
+        cells::bit(velocity.vertical_speed.0),
+        velocity.vertical_speed.1 as u32,
+        velocity.uncertainty.0 as u32,
+        velocity.vertical_uncertainty.0 as u32,
+    ]
+}
+
+// The record of the cells. A number that its code's type can't hold is taken as the largest that it holds.
+pub fn velocity_in(codes: &[u32]) -> Velocity
+    requires { ⌜ 7 ≤ length (now codes) ⌝ }
+    ensures { λ r. ⌜ r ≡ heldVelocity (now (codes .entry)) ⌝ }
+{
+    let kind = layout::velocity_kind_of(cells::capped_octet(codes[0]));
+    Velocity {
+        kind,
+        bearing: BearingCode(cells::capped_word(codes[1])),
+        horizontal_speed: HorizontalSpeedCode(cells::capped_word(codes[2])),
+        vertical_speed: VerticalSpeedCode(codes[3] == 1, cells::capped_octet(codes[4])),
+        uncertainty: UncertaintySpeedCode(cells::capped_octet(codes[5])),
+        vertical_uncertainty: UncertaintySpeedCode(cells::capped_octet(codes[6])),
+    }
+}
+
+// Whether the numbers whose types hold no more than their fields are within them: all but the type and the bearing.
+pub fn velocity_is_whole(codes: &[u32]) -> bool
+    requires { ⌜ 7 ≤ length (now codes) ⌝ }
+    ensures { λ r. ⌜ Decides r (WholeVelocity (now (codes .entry))) ⌝ }
+{
+    if 65535 < codes[2] {
+        return false;
+    }
+    if 1 < codes[3] {
+        return false;
+    }
+    if 255 < codes[4] {
+        return false;
+    }
+    if 255 < codes[5] {
+        return false;
+    }
+    if 255 < codes[6] {
+        return false;
+    }
+    true
+}
