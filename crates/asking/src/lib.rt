@@ -4,10 +4,13 @@ mod answers;
 mod places;
 mod request_lines;
 
+pub use amounts::Amount;
 pub use answers::Answer;
 pub use answers::put_answer;
 use numerals::Unsigned32;
 pub use request_lines::Asked;
+pub use request_lines::HorizontalRead;
+pub use request_lines::horizontal_of;
 pub use request_lines::request_in;
 ghost use Rattle.asking.specs.Asking.{ListIn};
 

@@ -92,7 +92,8 @@ fn horizontal_in(line: &[u8], ends: &[usize; 8]) -> HorizontalRead
     horizontal_of(semi_major, semi_minor, orientation)
 }
 
-fn horizontal_of(semi_major: Amount, semi_minor: Amount, orientation: Amount) -> HorizontalRead
+// The horizontal uncertainty of three amounts.
+pub fn horizontal_of(semi_major: Amount, semi_minor: Amount, orientation: Amount) -> HorizontalRead
     ensures { λ r. ⌜ r ≡ horizontalOf «semi_major» «semi_minor» orientation ⌝ }
 {
     match semi_major {

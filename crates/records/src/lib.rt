@@ -2,4 +2,5 @@
 mod kinds;
 mod shapes;
 
+pub use kinds::form;
 pub use shapes::code_shape;

@@ -1,0 +1,137 @@
+// Velocities: octets, codes and quantities.
+use ground::Outcome;
+use ground::Refusal;
+use ground::Whole;
+use layout::Velocity;
+use layout::VelocityKind;
+use quantities::VelocityCoded;
+use quantities::VelocityQuantities;
+use quantities::VelocityReported;
+ghost use Prim.Native.Nat.{_≤_};
+ghost use lib.ListN.{length};
+ghost use Rattle.cells.specs.Answers.{PutsCells};
+ghost use Rattle.ground.specs.Answers.{outcomeNumber};
+ghost use Rattle.code_cells.specs.Velocities.{velocityCells};
+ghost use Rattle.quantity_cells.specs.Velocities.{velocityQuantityCells};
+ghost use Rattle.desk.specs.Promises.{ReadsVelocityInto, WritesVelocityFrom, ReportsVelocityFrom, ReportsVelocityIn, CodesVelocityFrom, CodesVelocityIn, KindAnswer};
+
+const CODES: usize = 7;
+const QUANTITIES: usize = 6;
+
+// Octets to codes.
+#[no_mangle]
+pub extern "C" fn gad_read_velocity(codes: &mut [u32], message: &[u8]) -> i64
+    ensures { λ r. ⌜ ReadsVelocityInto (now (message .entry)) (now (codes .entry)) (now (codes .exit)) r ⌝ }
+{
+    let read = velocities::read_velocity(message);
+    let outcome = read.outcome;
+    put_codes(codes, outcome, read.velocity).0
+}
+
+// Codes to octets.
+#[no_mangle]
+pub extern "C" fn gad_write_velocity(out: &mut [u8], codes: &[u32]) -> i64
+    ensures { λ r. ⌜ WritesVelocityFrom (now (codes .entry)) (now (out .entry)) (now (out .exit)) r ⌝ }
+{
+    if codes.len() < CODES {
+        return cells::answer(Outcome::Refused(Refusal::WrongLength), 0).0;
+    }
+    let velocity = code_cells::velocity_in(codes);
+    if !code_cells::velocity_is_whole(codes) {
+        let outcome = crate::else_out_of_range(velocities::velocity_outcome(velocity));
+        return cells::answer(outcome, 0).0;
+    }
+    let written = velocities::write_velocity(out, velocity);
+    let outcome = written.outcome;
+    cells::answer(outcome, written.length).0
+}
+
+// Codes to quantities.
+#[no_mangle]
+pub extern "C" fn gad_report_velocity(quantities: &mut [i64], codes: &[u32]) -> i64
+    ensures { λ r. ⌜ ReportsVelocityFrom (now (codes .entry)) (now (quantities .entry)) (now (quantities .exit)) r ⌝ }
+{
+    if codes.len() < CODES {
+        return cells::answer(Outcome::Refused(Refusal::WrongLength), 0).0;
+    }
+    let reported = reported_in(codes);
+    let outcome = reported.outcome;
+    put_quantities(quantities, outcome, reported.quantities).0
+}
+
+// Quantities to codes.
+#[no_mangle]
+pub extern "C" fn gad_code_velocity(codes: &mut [u32], quantities: &[i64]) -> i64
+    ensures { λ r. ⌜ CodesVelocityFrom (now (quantities .entry)) (now (codes .entry)) (now (codes .exit)) r ⌝ }
+{
+    if quantities.len() < QUANTITIES {
+        return cells::answer(Outcome::Refused(Refusal::WrongLength), 0).0;
+    }
+    let coded = coded_in(quantities);
+    let outcome = coded.outcome;
+    put_codes(codes, outcome, coded.velocity).0
+}
+
+fn reported_in(codes: &[u32]) -> VelocityReported
+    requires { ⌜ 7 ≤ length (now codes) ⌝ }
+    ensures { λ r. ⌜ ReportsVelocityIn (now (codes .entry)) r ⌝ }
+{
+    let velocity = code_cells::velocity_in(codes);
+    if !code_cells::velocity_is_whole(codes) {
+        return VelocityReported {
+            outcome: crate::else_out_of_range(velocities::velocity_outcome(velocity)),
+            quantities: quantities::no_velocity(),
+        };
+    }
+    reports::report_velocity(velocity)
+}
+
+fn coded_in(given: &[i64]) -> VelocityCoded
+    requires { ⌜ 6 ≤ length (now given) ⌝ }
+    ensures { λ r. ⌜ CodesVelocityIn (now (given .entry)) r ⌝ }
+{
+    let quantities = quantity_cells::velocity_quantities_in(given);
+    if !quantity_cells::velocity_arrives(given) {
+        let kind = quantities.kind;
+        return VelocityCoded {
+            outcome: crate::else_out_of_range(kind_outcome(kind)),
+            velocity: layout::blank_velocity(VelocityKind::Nothing),
+        };
+    }
+    motions::code_velocity(quantities)
+}
+
+// 2, of a kind.
+fn kind_outcome(kind: VelocityKind) -> Outcome
+    ensures { λ r. ⌜ KindAnswer kind (outcomeNumber r) ⌝ }
+{
+    match kind {
+        VelocityKind::Nothing => Outcome::Refused(Refusal::UnknownType),
+        VelocityKind::Horizontal => Outcome::Done,
+        VelocityKind::HorizontalVertical => Outcome::Done,
+        VelocityKind::HorizontalUncertain => Outcome::Done,
+        VelocityKind::HorizontalVerticalUncertain => Outcome::Done,
+    }
+}
+
+fn put_codes(codes: &mut [u32], outcome: Outcome, velocity: Velocity) -> Whole
+    ensures { λ r. ⌜ PutsCells outcome (velocityCells velocity) (now (codes .entry)) (now (codes .exit)) (r .0) ⌝ }
+{
+    let room = codes.len();
+    let answer = cells::given_room(outcome, CODES, room);
+    if let Outcome::Done = answer {
+        code_cells::put_velocity(codes, velocity);
+    }
+    cells::answer(answer, CODES)
+}
+
+fn put_quantities(out: &mut [i64], outcome: Outcome, quantities: VelocityQuantities) -> Whole
+    ensures { λ r. ⌜ PutsCells outcome (velocityQuantityCells quantities) (now (out .entry)) (now (out .exit)) (r .0) ⌝ }
+{
+    let room = out.len();
+    let answer = cells::given_room(outcome, QUANTITIES, room);
+    if let Outcome::Done = answer {
+        quantity_cells::put_velocity_quantities(out, quantities);
+    }
+    cells::answer(answer, QUANTITIES)
+}

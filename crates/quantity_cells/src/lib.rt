@@ -1,0 +1,11 @@
+// A record's quantities in cells, and in specs/ the quantities that cells say.
+mod numbers;
+mod shapes;
+mod velocities;
+
+pub use shapes::put_shape_quantities;
+pub use shapes::shape_arrives;
+pub use shapes::shape_quantities_in;
+pub use velocities::put_velocity_quantities;
+pub use velocities::velocity_arrives;
+pub use velocities::velocity_quantities_in;

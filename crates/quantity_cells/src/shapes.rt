@@ -1,0 +1,156 @@
+// The 44 cells of a shape's quantities: type, count, latitude, longitude, altitude, uncertainty, semi-major, semi-minor, orientation,
+// altitude uncertainty, inner radius, offset, included, confidence; then latitude and longitude of fifteen points.
+use crate::numbers;
+use cells::Narrow;
+use ground::Millidegrees;
+use ground::Millimetres;
+use ground::Nanodegrees;
+use ground::SignedMillimetres;
+use ground::Whole;
+use quantities::ShapeQuantities;
+ghost use mathlib.Core.Path.{_≡_};
+ghost use mathlib.Core.List.{_++_};
+ghost use Prim.Native.Nat.{_≤_};
+ghost use lib.ListN.{length, drop};
+ghost use lib.Seq.{sets};
+ghost use Rattle.ground.specs.Answers.{Decides};
+ghost use Rattle.layout.specs.Shapes.{upto};
+ghost use Rattle.cells.specs.Quantities.{naturalOf, quantityIn};
+ghost use Rattle.quantity_cells.specs.Shapes.{quantityCells, singleCells, pointCells, quantitiesIn, coordinateIn, Arrives, NaturalsArrive};
+
+// Puts the cells of quantities into the first of the array.
+pub fn put_shape_quantities(out: &mut [i64], quantities: ShapeQuantities)
+    requires { ⌜ 44 ≤ length (now out) ⌝ }
+    ensures { λ _. ⌜ now (out .exit) ≡ quantityCells quantities ++ drop 44 (now (out .entry)) ⌝ }
+{
+    let singles = single_cells(quantities);
+    let latitudes = quantities.latitudes;
+    let longitudes = quantities.longitudes;
+    cells::put_quantities(out, &singles);
+    put_points(out, latitudes, longitudes);
+}
+
+// The cells before the points.
+fn single_cells(quantities: ShapeQuantities) -> [i64; 14]
+    ensures { λ r. ⌜ r ≡ singleCells quantities ⌝ }
+{
+    let kind = quantities.kind;
+    let type_number = layout::type_number(kind);
+    let confidence = quantities.confidence;
+    let altitude = quantities.altitude.0;
+    [
+        cells::wide(type_number as u32).0,
+        cells::wide(quantities.count as u32).0,
+        quantities.latitude.0,
+        quantities.longitude.0,
+        cells::wide_signed(Narrow(altitude)).0,
+        cells::wide(quantities.uncertainty.0).0,
+        cells::wide(quantities.semi_major.0).0,
+        cells::wide(quantities.semi_minor.0).0,
+        cells::wide(quantities.orientation.0).0,
+        cells::wide(quantities.altitude_uncertainty.0).0,
+        cells::wide(quantities.inner_radius.0).0,
+        cells::wide(quantities.offset.0).0,
+        cells::wide(quantities.included.0).0,
+        numbers::confidence_cell(confidence).0,
+    ]
+}
+
+// Puts the cells of the points.
+fn put_points(out: &mut [i64], latitudes: [Nanodegrees; 15], longitudes: [Nanodegrees; 15])
+    requires { ⌜ 44 ≤ length (now out) ⌝ }
+    ensures { λ _. ⌜ now (out .exit) ≡ sets (now (out .entry)) 14 (pointCells latitudes longitudes 15) ⌝ }
+{
+    let mut i = 0;
+    while i < 15 {
+        let at = 14 + 2 * i;
+        let latitude = latitudes[i];
+        let longitude = longitudes[i];
+        out[at] = latitude.0;
+        out[at + 1] = longitude.0;
+        i += 1;
+    }
+}
+
+// The quantities of the cells.
+pub fn shape_quantities_in(given: &[i64]) -> ShapeQuantities
+    requires { ⌜ 44 ≤ length (now given) ⌝ }
+    ensures { λ r. ⌜ r ≡ quantitiesIn (now (given .entry)) ⌝ }
+{
+    let kind = layout::kind_of(numbers::octet(Whole(given[0])));
+    let count = numbers::octet(Whole(given[1]));
+    let altitude = cells::signed(Whole(given[4]));
+    let confidence = numbers::confidence(Whole(given[13]));
+    let latitudes = coordinates_in(given, 14);
+    let longitudes = coordinates_in(given, 15);
+    ShapeQuantities {
+        kind,
+        latitude: Nanodegrees(given[2]),
+        longitude: Nanodegrees(given[3]),
+        altitude: SignedMillimetres(altitude.0),
+        uncertainty: Millimetres(natural_at(given, 5)),
+        semi_major: Millimetres(natural_at(given, 6)),
+        semi_minor: Millimetres(natural_at(given, 7)),
+        orientation: Millidegrees(natural_at(given, 8)),
+        altitude_uncertainty: Millimetres(natural_at(given, 9)),
+        inner_radius: Millimetres(natural_at(given, 10)),
+        offset: Millidegrees(natural_at(given, 11)),
+        included: Millidegrees(natural_at(given, 12)),
+        confidence,
+        count,
+        latitudes,
+        longitudes,
+    }
+}
+
+// The coordinates in every other cell from that one on.
+fn coordinates_in(given: &[i64], first: usize) -> [Nanodegrees; 15]
+    requires { ⌜ 44 ≤ length (now given) ⌝ }
+    requires { ⌜ first ≤ 15 ⌝ }
+    ensures { λ r. ⌜ r ≡ upto 15 (coordinateIn (now (given .entry)) first) ⌝ }
+{
+    let mut coordinates = [Nanodegrees(0); 15];
+    let mut i = 0;
+    while i < 15 {
+        coordinates[i] = Nanodegrees(given[first + 2 * i]);
+        i += 1;
+    }
+    coordinates
+}
+
+fn natural_at(given: &[i64], at: usize) -> u32
+    requires { ⌜ 44 ≤ length (now given) ⌝ }
+    requires { ⌜ at ≤ 43 ⌝ }
+    ensures { λ r. ⌜ r ≡ naturalOf (quantityIn (now (given .entry)) at) ⌝ }
+{
+    cells::natural(Whole(given[at]))
+}
+
+// Whether the quantities are of the widths in which they arrive.
+pub fn shape_arrives(given: &[i64]) -> bool
+    requires { ⌜ 44 ≤ length (now given) ⌝ }
+    ensures { λ r. ⌜ Decides r (Arrives (now (given .entry))) ⌝ }
+{
+    if !cells::is_signed(Whole(given[4])) {
+        return false;
+    }
+    if !numbers::is_optional(Whole(given[13])) {
+        return false;
+    }
+    naturals_arrive(given)
+}
+
+// From the uncertainty to the included angle.
+fn naturals_arrive(given: &[i64]) -> bool
+    requires { ⌜ 44 ≤ length (now given) ⌝ }
+    ensures { λ r. ⌜ Decides r (NaturalsArrive (now (given .entry))) ⌝ }
+{
+    let mut at = 5;
+    while at < 13 {
+        if !cells::is_natural(Whole(given[at])) {
+            return false;
+        }
+        at += 1;
+    }
+    true
+}
