@@ -1,0 +1,197 @@
+-- The numbers of cells: what a test decides, and a signed number, its bits and their complement. Assumes nothing.
+use mathlib.Core.Path.{_≡_, refl, sym, ap, _∙_, subst}
+use mathlib.Core.Bool.{Bool, true, false}
+use Prim.Native.Nat.{ℕ, suc, _-_, _≤_, _<_}
+use native.Mathlib.Omega.{arith}
+use lib.Dec.{T, eqb, leb, ltb}
+use lib.IntN.{ℤ, pos, negsuc, natAbs}
+use lib.Signed.{mag, ltZ, nonNeg}
+use borrow.Author.Tests.{eqb-true, eqb-false, leb-true, leb-false, ltb-true, ltb-false, lt-ltb, le-ltb}
+use mir.Syntax.{w32, w64}
+use mir.Val.{Fits, SFits, toZ, ofZ}
+use mir.Facts.{toZ-ofZ, toZ-pos, toZ-neg}
+use Rattle.ground.specs.Answers.{Decides, numberOf}
+use Rattle.ground.specs.declared.refusals.Refusal.{Refusal}
+use Rattle.ground.specs.declared.refusals.Refusal.the-variants.{
+  NoOctets,
+  UnknownType,
+  WrongLength,
+  PolygonCount,
+  AngleCode,
+  ConfidenceTooLarge,
+  OutOfRange,
+  UncertaintyTooLarge,
+  NoneHolds,
+  BufferTooShort,
+  FrameBroken,
+}
+use Rattle.ground.specs.Signs.{isNegative}
+use Rattle.ground.proofs.AnswerLaws.{decided}
+use Rattle.cells.specs.Codes.{capped, fromBits, bitsOf}
+use Rattle.cells.specs.Quantities.{missing, Natural32, naturalOf, Signed32, signedOf}
+
+-- ---- tests
+
+pub eqb-decides : (a b : ℕ) → Decides (eqb a b) (a ≡ b)
+eqb-decides a b = by (eqb a b) refl
+  where
+    by : (t : Bool) → eqb a b ≡ t → Decides t (a ≡ b)
+    by true e = eqb-true a b e
+    by false e = eqb-false a b e
+
+pub ltb-decides : (a b : ℕ) → Decides (ltb a b) (a < b)
+ltb-decides a b = by (ltb a b) refl
+  where
+    by : (t : Bool) → ltb a b ≡ t → Decides t (a < b)
+    by true e = ltb-true a b e
+    by false e = λ h. omega (arith, ltb-false a b e)
+
+pub leb-decides : (a b : ℕ) → Decides (leb a b) (a ≤ b)
+leb-decides a b = by (leb a b) refl
+  where
+    by : (t : Bool) → leb a b ≡ t → Decides t (a ≤ b)
+    by true e = leb-true a b e
+    by false e = λ h. omega (arith, leb-false a b e)
+
+-- ---- a number that is capped
+
+pub over : {largest n : ℕ} → largest < n → largest ≡ capped largest n
+over {largest} {n} h = simp (lt-ltb largest n h)
+
+pub under : {largest n : ℕ} → n ≤ largest → n ≡ capped largest n
+under {largest} {n} h = simp (le-ltb largest n h)
+
+-- ---- 32 bits in two's complement
+
+pub low-bits : {n : ℕ} → n < 2147483648 → toZ w32 n ≡ fromBits n
+low-bits {n} h = toZ-pos w32 h ∙ simp (lt-ltb n 2147483648 h)
+
+pub high-bits : {n : ℕ} → 2147483648 ≤ n → n < 4294967296 → toZ w32 (4294967295 - (4294967295 - n)) ≡ fromBits n
+high-bits {n} h l =
+    let q : 4294967295 - (4294967295 - n) ≡ 4294967296 - suc (4294967295 - n) = omega arith in
+    ap (toZ w32) q ∙ toZ-neg w32 (4294967295 - n) (omega arith) ∙ simp (le-ltb n 2147483648 h)
+
+-- a code z, where the code tests `z < 0` and casts z or its complement
+plain : (z : ℤ) → ltZ z (pos 0) ≡ false → (T (nonNeg z)) × (natAbs z ≡ bitsOf z) × (natAbs z ≡ mag z)
+plain (pos n) e = (tt, refl, refl)
+plain (negsuc n) e = absurd (subst T e tt)
+
+module _ (z : ℤ) (f : SFits w32 z) (e : ltZ (toZ w32 (ofZ w32 z)) (pos 0) ≡ false) where
+  as-is : (T (nonNeg z)) × (natAbs z ≡ bitsOf z) × (natAbs z ≡ mag z)
+  as-is = plain z (rw (toZ-ofZ f) at e)
+
+  pub plus-casts : (T (nonNeg (toZ w32 (ofZ w32 z)))) × Fits w32 (natAbs (toZ w32 (ofZ w32 z)))
+  plus-casts = rw (toZ-ofZ f) (as-is .0, record { fits = omega (arith, as-is .2, f .sfits) })
+
+  pub plus-bits : natAbs (toZ w32 (ofZ w32 z)) ≡ bitsOf z
+  plus-bits = rw (toZ-ofZ f) (as-is .1)
+
+turned : (z : ℤ) → SFits w32 z → ltZ z (pos 0) ≡ true → (toZ w32 (4294967295 - ofZ w32 z) ≡ pos (mag z)) × (4294967295 - mag z ≡ bitsOf z)
+turned (pos n) f e = absurd (omega (arith, ltb-true n 0 e))
+turned (negsuc n) f e =
+    let q : 4294967295 - (4294967296 - suc n) ≡ n = omega arith in
+    (ap (toZ w32) q ∙ toZ-pos w32 (f .sfits), refl)
+
+module _ (z : ℤ) (f : SFits w32 z) (e : ltZ (toZ w32 (ofZ w32 z)) (pos 0) ≡ true) where
+  minus : (toZ w32 (4294967295 - ofZ w32 z) ≡ pos (mag z)) × (4294967295 - mag z ≡ bitsOf z)
+  minus = turned z f (rw (toZ-ofZ f) at e)
+
+  pub minus-casts : (T (nonNeg (toZ w32 (4294967295 - ofZ w32 z)))) × Fits w32 (natAbs (toZ w32 (4294967295 - ofZ w32 z)))
+  minus-casts = rw (minus .0) (tt, record { fits = omega arith })
+
+  pub minus-below : natAbs (toZ w32 (4294967295 - ofZ w32 z)) ≤ 4294967295
+  minus-below = rw (minus .0) (omega arith)
+
+  pub minus-bits : 4294967295 - natAbs (toZ w32 (4294967295 - ofZ w32 z)) ≡ bitsOf z
+  minus-bits = rw (minus .0) (minus .1)
+
+-- ---- a quantity by its sign and its size
+
+least : (z : ℤ) → SFits w64 z → natAbs z ≡ 9223372036854775808 → z ≡ missing
+least (pos n) f e = absurd (omega arith)
+least (negsuc n) f e = let q : n ≡ 9223372036854775807 = omega arith in ap negsuc q
+
+pub missing-by : (z : ℤ) → SFits w64 z → Decides (eqb (natAbs z) 9223372036854775808) (z ≡ missing)
+missing-by z f = decided (eqb (natAbs z) 9223372036854775808) (least z f) (ap natAbs) (eqb-decides (natAbs z) 9223372036854775808)
+
+pub negative-not : (z : ℤ) → isNegative z ≡ true → Natural32 z → ⊥
+negative-not (pos n) e h = absurd (subst T (sym e) tt)
+negative-not (negsuc n) e h = h
+
+pub natural-by : (z : ℤ) → isNegative z ≡ false → Decides (ltb (natAbs z) 4294967296) (Natural32 z)
+natural-by (pos n) e = ltb-decides n 4294967296
+natural-by (negsuc n) e = absurd (subst T e tt)
+
+pub natural-is : (z : ℤ) → Natural32 z → natAbs z ≡ naturalOf z
+natural-is (pos n) h = simp (lt-ltb n 4294967296 h)
+natural-is (negsuc n) h = absurd h
+
+pub natural-fits : (z : ℤ) → Natural32 z → natAbs z < 4294967296
+natural-fits (pos n) h = h
+natural-fits (negsuc n) h = absurd h
+
+pub natural-none : (z : ℤ) → (Natural32 z → ⊥) → 0 ≡ naturalOf z
+natural-none (pos n) h = by (ltb n 4294967296) (ltb-decides n 4294967296)
+  where
+    by : (t : Bool) → Decides t (n < 4294967296) → 0 ≡ naturalOf (pos n)
+    by true d = absurd (h d)
+    by false d = simp (le-ltb n 4294967296 (omega arith))
+natural-none (negsuc n) h = refl
+
+pub minus-by : (z : ℤ) → isNegative z ≡ true → Decides (leb (natAbs z) 2147483648) (Signed32 z)
+minus-by (pos n) e = absurd (subst T (sym e) tt)
+minus-by (negsuc n) e =
+    decided (leb (suc n) 2147483648) (λ h. omega arith) (λ h. omega arith) (leb-decides (suc n) 2147483648)
+
+pub plus-by : (z : ℤ) → isNegative z ≡ false → Decides (ltb (natAbs z) 2147483648) (Signed32 z)
+plus-by (pos n) e = ltb-decides n 2147483648
+plus-by (negsuc n) e = absurd (subst T e tt)
+
+-- ---- a quantity between two bounds
+
+too-low : (z : ℤ) → ltZ z (negsuc 2147483647) ≡ true → 2147483648 ≤ mag z
+too-low (pos n) e = absurd (subst T (sym e) tt)
+too-low (negsuc n) e = omega (arith, ltb-true 2147483647 n e)
+
+too-high : (z : ℤ) → ltZ (pos 2147483647) z ≡ true → 2147483648 ≤ mag z
+too-high (pos n) e = omega (arith, ltb-true 2147483647 n e)
+too-high (negsuc n) e = absurd (subst T (sym e) tt)
+
+between : (z : ℤ) → ltZ z (negsuc 2147483647) ≡ false → ltZ (pos 2147483647) z ≡ false → mag z < 2147483648
+between (pos n) e h = omega (arith, ltb-false 2147483647 n h)
+between (negsuc n) e h = omega (arith, ltb-false 2147483647 n e)
+
+none : (z : ℤ) → 2147483648 ≤ mag z → pos 0 ≡ signedOf z
+none z h = simp (le-ltb (mag z) 2147483648 h)
+
+module _ (z : ℤ) (f : SFits w64 z) where
+  pub signed-low : ltZ (toZ w64 (ofZ w64 z)) (negsuc 2147483647) ≡ true → pos 0 ≡ signedOf z
+  signed-low e = none z (too-low z (rw (toZ-ofZ f) at e))
+
+  pub signed-high : ltZ (pos 2147483647) (toZ w64 (ofZ w64 z)) ≡ true → pos 0 ≡ signedOf z
+  signed-high e = none z (too-high z (rw (toZ-ofZ f) at e))
+
+  module _ (e : ltZ (toZ w64 (ofZ w64 z)) (negsuc 2147483647) ≡ false) (h : ltZ (pos 2147483647) (toZ w64 (ofZ w64 z)) ≡ false) where
+    small : mag z < 2147483648
+    small = between z (rw (toZ-ofZ f) at e) (rw (toZ-ofZ f) at h)
+
+    pub signed-fits : SFits w32 (toZ w64 (ofZ w64 z))
+    signed-fits = rw (toZ-ofZ f) (record { sfits = small })
+
+    pub signed-is : toZ w32 (ofZ w32 (toZ w64 (ofZ w64 z))) ≡ signedOf z
+    signed-is = toZ-ofZ signed-fits ∙ toZ-ofZ f ∙ simp (lt-ltb (mag z) 2147483648 small)
+
+-- ---- a refusal's number is a small one
+
+pub refusals-few : (why : Refusal) → numberOf why < 9223372036854775808
+refusals-few NoOctets = omega arith
+refusals-few UnknownType = omega arith
+refusals-few WrongLength = omega arith
+refusals-few PolygonCount = omega arith
+refusals-few AngleCode = omega arith
+refusals-few ConfidenceTooLarge = omega arith
+refusals-few OutOfRange = omega arith
+refusals-few UncertaintyTooLarge = omega arith
+refusals-few NoneHolds = omega arith
+refusals-few BufferTooShort = omega arith
+refusals-few FrameBroken = omega arith
