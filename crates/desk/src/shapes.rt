@@ -15,6 +15,7 @@ ghost use Rattle.quantity_cells.specs.Shapes.{quantityCells};
 ghost use Rattle.desk.specs.Promises.{ReadsShapeInto, WritesShapeFrom, ReportsShapeFrom, ReportsShapeIn, CodesShapeFrom, CodesShapeIn};
 
 const CODES: usize = 61;
+
 const QUANTITIES: usize = 44;
 
 // Octets to codes.

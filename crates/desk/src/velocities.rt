@@ -16,6 +16,7 @@ ghost use Rattle.quantity_cells.specs.Velocities.{velocityQuantityCells};
 ghost use Rattle.desk.specs.Promises.{ReadsVelocityInto, WritesVelocityFrom, ReportsVelocityFrom, ReportsVelocityIn, CodesVelocityFrom, CodesVelocityIn, KindAnswer};
 
 const CODES: usize = 7;
+
 const QUANTITIES: usize = 6;
 
 // Octets to codes.

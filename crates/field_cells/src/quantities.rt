@@ -1,9 +1,9 @@
 // A code's quantity. The code is given as its cells.
+use cells::Narrow;
 use ground::Outcome;
 use ground::Refusal;
 use ground::Told;
 use ground::Whole;
-use cells::Narrow;
 use reporting::Byte;
 use reporting::Signed;
 use reporting::Word;
@@ -99,6 +99,7 @@ fn put_one(out: &mut [i64], quantity: Whole) -> Whole
     if out.len() < 1 {
         return cells::answer(Outcome::Refused(Refusal::BufferTooShort), 0);
     }
-    out[0] = quantity.0;
+    let cell = quantity.0;
+    out[0] = cell;
     cells::answer(Outcome::Done, 1)
 }

@@ -66,8 +66,10 @@ fn put_points(out: &mut [i64], latitudes: [Nanodegrees; 15], longitudes: [Nanode
         let at = 14 + 2 * i;
         let latitude = latitudes[i];
         let longitude = longitudes[i];
-        out[at] = latitude.0;
-        out[at + 1] = longitude.0;
+        let north = latitude.0;
+        let east = longitude.0;
+        out[at] = north;
+        out[at + 1] = east;
         i += 1;
     }
 }
