@@ -1,6 +1,6 @@
 -- A loop that copies a slice into the first of another, over any element: a turn, and the end. Assumes nothing.
-use mathlib.Core.Path.{_≡_, ap, _∙_, subst}
-use mathlib.Core.List.{List, _++_}
+use mathlib.Core.Path.{_≡_, refl, ap, _∙_, subst}
+use mathlib.Core.List.{List, [], _∷_, _++_}
 use Prim.Native.Nat.{ℕ, suc, _+_, _≤_, _<_}
 use native.Mathlib.Nat.{zero-add}
 use native.Mathlib.Numerals.{add-one}
@@ -31,3 +31,13 @@ module _ {A : Type 0} {before src after : List A} {i : ℕ} (room : length src �
       let w = h .within in
       let e : i ≡ length src = omega arith in
       rw (h .content, e, take-all (length src) src (omega arith), zero-add (length src))
+
+-- one cell, and two, stored into the first
+pub first-stored : {A : Type 0} (s : List A) (a : A) → 1 ≤ length s → set s 0 a ≡ (a ∷ []) ++ drop 1 s
+first-stored [] a h = absurd (omega arith)
+first-stored (b ∷ s) a h = refl
+
+pub two-stored : {A : Type 0} (s : List A) (a b : A) → 2 ≤ length s → set (set s 0 a) 1 b ≡ (a ∷ b ∷ []) ++ drop 2 s
+two-stored [] a b h = absurd (omega arith)
+two-stored (x ∷ []) a b h = absurd (omega arith)
+two-stored (x ∷ y ∷ s) a b h = refl
