@@ -99,7 +99,7 @@ module _ (z : ℤ) (f : SFits w32 z) (e : ltZ (toZ w32 (ofZ w32 z)) (pos 0) ≡ 
   pub minus-casts : (T (nonNeg (toZ w32 (4294967295 - ofZ w32 z)))) × Fits w32 (natAbs (toZ w32 (4294967295 - ofZ w32 z)))
   minus-casts = rw (minus .0) (tt, record { fits = omega arith })
 
-  pub minus-below : natAbs (toZ w32 (4294967295 - ofZ w32 z)) ≤ 4294967295
+  pub minus-below : natAbs (toZ w32 (4294967295 - ofZ w32 z)) < 2147483648
   minus-below = rw (minus .0) (omega arith)
 
   pub minus-bits : 4294967295 - natAbs (toZ w32 (4294967295 - ofZ w32 z)) ≡ bitsOf z

@@ -37,26 +37,37 @@ pub fn put_shape(out: &mut [u32], shape: Shape)
 fn single_cells(shape: Shape) -> [u32; 16]
     ensures { λ r. ⌜ r ≡ singleCells shape ⌝ }
 {
+    let count = shape.count;
+    let altitude = shape.altitude.1;
+    let uncertainty = shape.uncertainty.0;
+    let semi_major = shape.semi_major.0;
+    let semi_minor = shape.semi_minor.0;
+    let orientation = shape.orientation.0;
+    let altitude_uncertainty = shape.altitude_uncertainty.0;
+    let inner_radius = shape.inner_radius.0;
+    let offset = shape.offset.0;
+    let included = shape.included.0;
+    let confidence = shape.confidence.0;
+    let longitude = shape.longitude;
     let kind = shape.kind;
     let type_number = layout::type_number(kind);
-    let longitude = shape.longitude;
     [
         type_number as u32,
-        shape.count as u32,
+        count as u32,
         cells::bit(shape.latitude.0),
         shape.latitude.1,
         cells::complement_of(longitude),
         cells::bit(shape.altitude.0),
-        shape.altitude.1 as u32,
-        shape.uncertainty.0 as u32,
-        shape.semi_major.0 as u32,
-        shape.semi_minor.0 as u32,
-        shape.orientation.0 as u32,
-        shape.altitude_uncertainty.0 as u32,
-        shape.inner_radius.0 as u32,
-        shape.offset.0 as u32,
-        shape.included.0 as u32,
-        shape.confidence.0 as u32,
+        altitude as u32,
+        uncertainty as u32,
+        semi_major as u32,
+        semi_minor as u32,
+        orientation as u32,
+        altitude_uncertainty as u32,
+        inner_radius as u32,
+        offset as u32,
+        included as u32,
+        confidence as u32,
     ]
 }
 
