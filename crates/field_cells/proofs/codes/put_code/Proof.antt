@@ -67,37 +67,37 @@ answer-requires-5 : tie.Need-answer-requires-5
 answer-requires-5 c κs = search needs
 
 returns : tie.Need-returns
-returns c = subst⁻¹ (λ (t : Told). PutsCells (toldOutcome t) (codeCells t) _ _ _) (c .before .before .told .given .1) (puts-refused (c .answer .ensures) refl)
+returns c = subst⁻¹ (λ (t : Told). PutsCells (toldOutcome t) (codeCells t) (c .before .before .before .before .before .args .out .now) (c .before .before .before .before .before .args .out .now) (c .answer .result .0)) (c .before .before .told .given .1) (puts-refused (c .answer .ensures) refl)
 
 returns-2 : tie.Need-returns-2
-returns-2 c = subst⁻¹ (λ (t : Told). PutsCells (toldOutcome t) (codeCells t) _ _ _) (c .before .enum-told .given .1) (puts-done (omega arith) (c .answer2 .ensures) refl)
+returns-2 c = subst⁻¹ (λ (t : Told). PutsCells (toldOutcome t) (codeCells t) (c .before .before .before .before .args .out .now) (c .before .before .before .before .args .out .now) (c .answer2 .result .0)) (c .before .enum-told .given .1) (puts-done (omega arith) (c .answer2 .ensures) refl)
 
 same-length : tie.Need-same-length
 same-length c = search needs
 
 returns-3 : tie.Need-returns-3
-returns-3 c = subst⁻¹ (λ (t : Told). PutsCells (toldOutcome t) (codeCells t) _ _ _) (c .before .before .before .before .before .told2 .given .1) (c .before .before .put-one .ensures)
+returns-3 c = subst⁻¹ (λ (t : Told). PutsCells (toldOutcome t) (codeCells t) (c .before .before .before .before .before .before .before .before .args .out .now) (c .before .before .put-one .last .0) (c .before .before .put-one .result .0)) (c .before .before .before .before .before .told2 .given .1) (c .before .before .put-one .ensures)
 
 same-length-2 : tie.Need-same-length-2
 same-length-2 c = search needs
 
 returns-4 : tie.Need-returns-4
-returns-4 c = subst⁻¹ (λ (t : Told). PutsCells (toldOutcome t) (codeCells t) _ _ _) (c .before .before .before .before .before .before .told3 .given .1) (rw (c .before .before .before .bit .ensures) at (c .before .before .put-two .ensures))
+returns-4 c = subst⁻¹ (λ (t : Told). PutsCells (toldOutcome t) (codeCells t) (c .before .before .before .before .before .before .before .before .before .args .out .now) (c .before .before .put-two .last .0) (c .before .before .put-two .result .0)) (c .before .before .before .before .before .before .told3 .given .1) (rw (c .before .before .before .bit .ensures) at (c .before .before .put-two .ensures))
 
 same-length-3 : tie.Need-same-length-3
 same-length-3 c = search needs
 
 returns-5 : tie.Need-returns-5
-returns-5 c = subst⁻¹ (λ (t : Told). PutsCells (toldOutcome t) (codeCells t) _ _ _) (c .before .before .before .before .before .before .told4 .given .1) (rw (c .before .before .before .complement-of .ensures) at (c .before .before .put-one2 .ensures))
+returns-5 c = subst⁻¹ (λ (t : Told). PutsCells (toldOutcome t) (codeCells t) (c .before .before .before .before .before .before .before .before .before .args .out .now) (c .before .before .put-one2 .last .0) (c .before .before .put-one2 .result .0)) (c .before .before .before .before .before .before .told4 .given .1) (rw (c .before .before .before .complement-of .ensures) at (c .before .before .put-one2 .ensures))
 
 returns-6 : tie.Need-returns-6
-returns-6 c = subst⁻¹ (λ (t : Told). PutsCells (toldOutcome t) (codeCells t) _ _ _) (c@told5 .given .1) (puts-done (omega arith) (c .answer3 .ensures) refl)
+returns-6 c = subst⁻¹ (λ (t : Told). PutsCells (toldOutcome t) (codeCells t) (c .before .before .before .before .args .out .now) (c .before .before .before .before .args .out .now) (c .answer3 .result .0)) (c .before .enum-told2 .given .1) (puts-done (omega arith) (c .answer3 .ensures) refl)
 
 returns-7 : tie.Need-returns-7
-returns-7 c = subst⁻¹ (λ (t : Told). PutsCells (toldOutcome t) (codeCells t) _ _ _) (c@told6 .given .1) (puts-done (omega arith) (c .answer4 .ensures) refl)
+returns-7 c = subst⁻¹ (λ (t : Told). PutsCells (toldOutcome t) (codeCells t) (c .before .before .before .before .args .out .now) (c .before .before .before .before .args .out .now) (c .answer4 .result .0)) (c .before .enum-told3 .given .1) (puts-done (omega arith) (c .answer4 .ensures) refl)
 
 returns-8 : tie.Need-returns-8
-returns-8 c = subst⁻¹ (λ (t : Told). PutsCells (toldOutcome t) (codeCells t) _ _ _) (c@told7 .given .1) (puts-done (omega arith) (c .answer5 .ensures) refl)
+returns-8 c = subst⁻¹ (λ (t : Told). PutsCells (toldOutcome t) (codeCells t) (c .before .before .before .before .args .out .now) (c .before .before .before .before .args .out .now) (c .answer5 .result .0)) (c .before .enum-told4 .given .1) (puts-done (omega arith) (c .answer5 .ensures) refl)
 
 pub put-code-spec : {M : Type 1} → statement M
 put-code-spec =

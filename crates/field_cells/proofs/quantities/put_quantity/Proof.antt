@@ -73,43 +73,43 @@ put-one-requires-5 : tie.Need-put-one-requires-5
 put-one-requires-5 c κs = search needs
 
 returns : tie.Need-returns
-returns c = subst⁻¹ (λ (t : Told). PutsCells (toldOutcome t) (quantityCells t) _ _ _) (c .before .before .told .given .1) (puts-refused (c .answer .ensures) refl)
+returns c = subst⁻¹ (λ (t : Told). PutsCells (toldOutcome t) (quantityCells t) (c .before .before .before .before .args .out .now) (c .before .before .before .before .args .out .now) (c .answer .result .0)) (c .before .before .told .given .1) (puts-refused (c .answer .ensures) refl)
 
 same-length : tie.Need-same-length
 same-length c = search needs
 
 returns-2 : tie.Need-returns-2
-returns-2 c = subst⁻¹ (λ (t : Told). PutsCells (toldOutcome t) (quantityCells t) _ _ _) (c .before .before .before .before .enum-told .given .1) (rw (c .before .before .missing .ensures) at (c .before .put-one .ensures))
+returns-2 c = subst⁻¹ (λ (t : Told). PutsCells (toldOutcome t) (quantityCells t) (c .before .before .before .before .before .before .args .out .now) (c .before .put-one .last .0) (c .before .put-one .result .0)) (c .before .before .before .before .enum-told .given .1) (rw (c .before .before .missing .ensures) at (c .before .put-one .ensures))
 
 same-length-2 : tie.Need-same-length-2
 same-length-2 c = search needs
 
 returns-3 : tie.Need-returns-3
-returns-3 c = subst⁻¹ (λ (t : Told). PutsCells (toldOutcome t) (quantityCells t) _ _ _) (c .before .before .before .before .before .told2 .given .1) (rw (c .before .before .wide .ensures) at (c .before .put-one2 .ensures))
+returns-3 c = subst⁻¹ (λ (t : Told). PutsCells (toldOutcome t) (quantityCells t) (c .before .before .before .before .before .before .before .args .out .now) (c .before .put-one2 .last .0) (c .before .put-one2 .result .0)) (c .before .before .before .before .before .told2 .given .1) (rw (c .before .before .wide .ensures) at (c .before .put-one2 .ensures))
 
 returns-4 : tie.Need-returns-4
-returns-4 c = subst⁻¹ (λ (t : Told). PutsCells (toldOutcome t) (quantityCells t) _ _ _) (c@told3 .given .1) (puts-done (omega arith) (c .answer2 .ensures) refl)
+returns-4 c = subst⁻¹ (λ (t : Told). PutsCells (toldOutcome t) (quantityCells t) (c .before .before .before .args .out .now) (c .before .before .before .args .out .now) (c .answer2 .result .0)) (c .before .enum-told2 .given .1) (puts-done (omega arith) (c .answer2 .ensures) refl)
 
 returns-5 : tie.Need-returns-5
-returns-5 c = subst⁻¹ (λ (t : Told). PutsCells (toldOutcome t) (quantityCells t) _ _ _) (c@told4 .given .1) (puts-done (omega arith) (c .answer3 .ensures) refl)
+returns-5 c = subst⁻¹ (λ (t : Told). PutsCells (toldOutcome t) (quantityCells t) (c .before .before .before .args .out .now) (c .before .before .before .args .out .now) (c .answer3 .result .0)) (c .before .enum-told3 .given .1) (puts-done (omega arith) (c .answer3 .ensures) refl)
 
 same-length-3 : tie.Need-same-length-3
 same-length-3 c = search needs
 
 returns-6 : tie.Need-returns-6
-returns-6 c = subst⁻¹ (λ (t : Told). PutsCells (toldOutcome t) (quantityCells t) _ _ _) (c@told5 .given .1) (rw (toZ-ofZ {w = w64} {z = c@told5 .given .0 .0 .0} (search needs)) at (c .before .put-one3 .ensures))
+returns-6 c = subst⁻¹ (λ (t : Told). PutsCells (toldOutcome t) (quantityCells t) (c .before .before .before .before .before .before .before .args .out .now) (c .before .put-one3 .last .0) (c .before .put-one3 .result .0)) (c .before .before .before .before .before .told3 .given .1) (rw (toZ-ofZ {w = w64} {z = c .before .before .before .before .before .told3 .given .0 .0 .0} (search needs)) at (c .before .put-one3 .ensures))
 
 same-length-4 : tie.Need-same-length-4
 same-length-4 c = search needs
 
 returns-7 : tie.Need-returns-7
-returns-7 c = subst⁻¹ (λ (t : Told). PutsCells (toldOutcome t) (quantityCells t) _ _ _) (c@told6 .given .1) (rw (toZ-ofZ {w = w32} {z = c@told6 .given .0 .0 .0} (search needs), c .before .before .wide-signed .ensures) at (c .before .put-one4 .ensures))
+returns-7 c = subst⁻¹ (λ (t : Told). PutsCells (toldOutcome t) (quantityCells t) (c .before .before .before .before .before .before .before .before .args .out .now) (c .before .put-one4 .last .0) (c .before .put-one4 .result .0)) (c .before .before .before .before .before .before .told4 .given .1) (rw (c .before .before .wide-signed .ensures, toZ-ofZ {w = w32} {z = c .before .before .before .before .before .before .told4 .given .0 .0 .0} (search needs)) at (c .before .put-one4 .ensures))
 
 same-length-5 : tie.Need-same-length-5
 same-length-5 c = search needs
 
 returns-8 : tie.Need-returns-8
-returns-8 c = subst⁻¹ (λ (t : Told). PutsCells (toldOutcome t) (quantityCells t) _ _ _) (c@told7 .given .1) (rw (toZ-ofZ {w = w32} {z = c@told7 .given .0 .0 .0} (search needs), c .before .before .wide-signed2 .ensures) at (c .before .put-one5 .ensures))
+returns-8 c = subst⁻¹ (λ (t : Told). PutsCells (toldOutcome t) (quantityCells t) (c .before .before .before .before .before .before .before .before .args .out .now) (c .before .put-one5 .last .0) (c .before .put-one5 .result .0)) (c .before .before .before .before .before .before .told5 .given .1) (rw (c .before .before .wide-signed2 .ensures, toZ-ofZ {w = w32} {z = c .before .before .before .before .before .before .told5 .given .0 .0 .0} (search needs)) at (c .before .put-one5 .ensures))
 
 pub put-quantity-spec : {M : Type 1} → statement M
 put-quantity-spec =
