@@ -5,7 +5,6 @@ use Prim.Native.Nat.{ℕ, _≤_, _<_}
 use lib.Dec.{T}
 use lib.IntN.{ℤ, pos, negsuc, natAbs}
 use borrow.Author.Tests.{ne-eqb}
-use lib.Signed.{mag}
 use mir.Syntax.{w64}
 use mir.Val.{SFits, toZ, ofZ}
 use mir.Facts.{toZ-ofZ}
@@ -19,14 +18,6 @@ use Rattle.quantity_cells.specs.Numbers.{octetOf, Optional, isMissing}
 -- a number that was stored as its bits is what it was
 pub stored : {x y : ℤ} → x ≡ y → SFits w64 x → toZ w64 (ofZ w64 x) ≡ y
 stored e f = toZ-ofZ f ∙ e
-
--- a cell that was read
-pub cell-read : {z : ℤ} → mag z < 9223372036854775808 → toZ w64 (ofZ w64 z) ≡ z
-cell-read h = toZ-ofZ {w = w64} (record { sfits = h })
-
--- what was made of it
-pub cell-as : {A : Type 0} {r : A} (f : ℤ → A) (z : ℤ) → mag z < 9223372036854775808 → r ≡ f (toZ w64 (ofZ w64 z)) → r ≡ f z
-cell-as f z h e = e ∙ ap f (cell-read h)
 
 -- ---- an octet's number
 

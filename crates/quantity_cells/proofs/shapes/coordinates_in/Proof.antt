@@ -10,7 +10,7 @@ use Rattle.layout.specs.Shapes.{upto}
 use Rattle.quantities.specs.Shapes.{zeroDegrees}
 use Rattle.fetching.proofs.Filling.{fill}
 use Rattle.quantity_cells.specs.Shapes.{coordinateIn}
-use Rattle.quantity_cells.proofs.CellLaws.{cell-read}
+use Rattle.cells.proofs.NumberLaws.{cell-read}
 use Rattle.quantity_cells.proofs.shapes.coordinates_in.Statement.{statement}
 use Rattle.quantity_cells.proofs.shapes.coordinates_in.Tie as tie
 

@@ -1,5 +1,5 @@
 -- `quantity_cells::natural_at` meets its contract: the number of the cell that was read. Assumes nothing.
-use Rattle.quantity_cells.proofs.CellLaws.{cell-read}
+use Rattle.cells.proofs.NumberLaws.{cell-read}
 use borrow.Author.Needs.{needs}
 use Rattle.quantity_cells.proofs.shapes.natural_at.Statement.{statement}
 use Rattle.quantity_cells.proofs.shapes.natural_at.Tie as tie

@@ -6,7 +6,7 @@ use native.Mathlib.Omega.{arith}
 use borrow.Author.Count.{below-more}
 use Rattle.ground.proofs.AnswerLaws.{shown, refuted}
 use Rattle.cells.specs.Quantities.{quantityIn, Natural32}
-use Rattle.quantity_cells.proofs.CellLaws.{cell-read}
+use Rattle.cells.proofs.NumberLaws.{cell-read}
 use Rattle.quantity_cells.proofs.shapes.naturals_arrive.Statement.{statement}
 use Rattle.quantity_cells.proofs.shapes.naturals_arrive.Tie as tie
 

@@ -6,7 +6,7 @@ use mir.Facts.{toZ-ofZ}
 use Rattle.layout.specs.Shapes.{kindOf}
 use Rattle.cells.specs.Quantities.{quantityIn, signedOf}
 use Rattle.quantity_cells.specs.Numbers.{octetOf, confidenceOf}
-use Rattle.quantity_cells.proofs.CellLaws.{cell-read, cell-as}
+use Rattle.cells.proofs.NumberLaws.{cell-read, cell-as}
 use borrow.Author.Needs.{needs}
 use Rattle.quantity_cells.proofs.shapes.shape_quantities_in.Statement.{statement}
 use Rattle.quantity_cells.proofs.shapes.shape_quantities_in.Tie as tie

@@ -6,7 +6,7 @@ use mir.Facts.{toZ-ofZ}
 use Rattle.layout.specs.Velocities.{velocityKindOf}
 use Rattle.cells.specs.Quantities.{quantityIn, naturalOf, signedOf}
 use Rattle.quantity_cells.specs.Numbers.{octetOf, uncertaintySpeedOf}
-use Rattle.quantity_cells.proofs.CellLaws.{cell-as}
+use Rattle.cells.proofs.NumberLaws.{cell-as}
 use borrow.Author.Needs.{needs}
 use Rattle.quantity_cells.proofs.velocities.velocity_quantities_in.Statement.{statement}
 use Rattle.quantity_cells.proofs.velocities.velocity_quantities_in.Tie as tie
