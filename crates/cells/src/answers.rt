@@ -5,7 +5,7 @@ use ground::Refusal;
 use ground::Whole;
 ghost use mathlib.Core.Path.{_≡_};
 ghost use Prim.Native.Nat.{_<_};
-ghost use Rattle.cells.specs.Answers.{answerOf, givenRoom};
+ghost use Rattle.cells.specs.Answers.{answerOf, givenRoom, elseOutOfRange};
 
 // 10 where what is done has no room.
 pub fn given_room(outcome: Outcome, wanted: usize, room: usize) -> Outcome
@@ -18,6 +18,16 @@ pub fn given_room(outcome: Outcome, wanted: usize, room: usize) -> Outcome
             }
             Outcome::Done
         }
+        Outcome::Refused(why) => Outcome::Refused(why),
+    }
+}
+
+// 7 for a number outside its field or its width, after what comes before it.
+pub fn else_out_of_range(outcome: Outcome) -> Outcome
+    ensures { λ r. ⌜ r ≡ elseOutOfRange outcome ⌝ }
+{
+    match outcome {
+        Outcome::Done => Outcome::Refused(Refusal::OutOfRange),
         Outcome::Refused(why) => Outcome::Refused(why),
     }
 }

@@ -146,12 +146,20 @@ heldShape cells = record {
   longitudes = upto 15 (heldLongitude cells);
 }
 
--- the numbers that their codes' types can't hold outside their fields are within them
+-- ---- the numbers that their codes' types hold
+
+-- the largest number of each code before the points; any number names a type or none
+abbrev pub largestNumbers : List ℕ
+largestNumbers =
+    4294967295 ∷ 255 ∷ 1 ∷ 4294967295 ∷ 4294967295 ∷ 1 ∷ 65535 ∷ 255 ∷ 255 ∷ 255 ∷ 255 ∷ 255 ∷ 65535 ∷ 255 ∷ 255 ∷ 255 ∷ []
+
+abbrev pub WholeSingles : List ℕ → Type 0
+WholeSingles cells = (i : ℕ) → i < 16 → cellAt cells i ≤ getD largestNumbers i 0
+
+-- of a point's codes only the sign's type holds less than a cell
 abbrev pub WholePoints : List ℕ → Type 0
 WholePoints cells = (i : ℕ) → i < 15 → cellAt cells (16 + 3 * i) ≤ 1
 
 pub record Whole (cells : List ℕ) : Type 0 where
-  pub north : cellAt cells 2 ≤ 1
-  pub height : cellAt cells 5 ≤ 1
-  pub inner : cellAt cells 12 ≤ 65535
+  pub singles : WholeSingles cells
   pub points : WholePoints cells

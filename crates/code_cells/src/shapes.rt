@@ -16,7 +16,7 @@ ghost use mathlib.Core.List.{_++_};
 ghost use Prim.Native.Nat.{_≤_};
 ghost use lib.ListN.{length, drop};
 ghost use Rattle.ground.specs.Answers.{Decides};
-ghost use Rattle.code_cells.specs.Shapes.{shapeCells, singleCells, heldShape, heldLatitude, heldLongitude, Whole, WholePoints};
+ghost use Rattle.code_cells.specs.Shapes.{shapeCells, singleCells, heldShape, heldLatitude, heldLongitude, Whole, WholeSingles, WholePoints, largestNumbers};
 ghost use Rattle.layout.specs.Shapes.{upto};
 ghost use lib.Seq.{sets};
 ghost use Rattle.code_cells.specs.Shapes.{pointCells};
@@ -143,23 +143,57 @@ fn longitudes_in(codes: &[u32]) -> [LongitudeCode; 15]
     longitudes
 }
 
-// Whether the numbers whose types hold no more than their fields are within them: each sign, and the inner radius.
+// Whether each number is one that its code's type holds.
 pub fn shape_is_whole(codes: &[u32]) -> bool
     requires { ⌜ 61 ≤ length (now codes) ⌝ }
     ensures { λ r. ⌜ Decides r (Whole (now (codes .entry))) ⌝ }
 {
-    if 1 < codes[2] {
-        return false;
-    }
-    if 1 < codes[5] {
-        return false;
-    }
-    if 65535 < codes[12] {
+    if !singles_are_whole(codes) {
         return false;
     }
     points_are_whole(codes)
 }
 
+fn singles_are_whole(codes: &[u32]) -> bool
+    requires { ⌜ 61 ≤ length (now codes) ⌝ }
+    ensures { λ r. ⌜ Decides r (WholeSingles (now (codes .entry))) ⌝ }
+{
+    let largest = largest_numbers();
+    let mut i = 0;
+    while i < 16 {
+        if largest[i] < codes[i] {
+            return false;
+        }
+        i += 1;
+    }
+    true
+}
+
+// The largest number that the type of each code before the points holds.
+fn largest_numbers() -> [u32; 16]
+    ensures { λ r. ⌜ r ≡ largestNumbers ⌝ }
+{
+    [
+        4294967295,
+        255,
+        1,
+        4294967295,
+        4294967295,
+        1,
+        65535,
+        255,
+        255,
+        255,
+        255,
+        255,
+        65535,
+        255,
+        255,
+        255,
+    ]
+}
+
+// A point's sign is 0 or 1; its other codes' types hold every number.
 fn points_are_whole(codes: &[u32]) -> bool
     requires { ⌜ 61 ≤ length (now codes) ⌝ }
     ensures { λ r. ⌜ Decides r (WholePoints (now (codes .entry))) ⌝ }

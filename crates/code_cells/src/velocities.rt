@@ -46,11 +46,14 @@ pub fn velocity_in(codes: &[u32]) -> Velocity
     }
 }
 
-// Whether the numbers whose types hold no more than their fields are within them: all but the type and the bearing.
+// Whether each number is one that its code's type holds.
 pub fn velocity_is_whole(codes: &[u32]) -> bool
     requires { ⌜ 7 ≤ length (now codes) ⌝ }
     ensures { λ r. ⌜ Decides r (WholeVelocity (now (codes .entry))) ⌝ }
 {
+    if 65535 < codes[1] {
+        return false;
+    }
     if 65535 < codes[2] {
         return false;
     }

@@ -38,7 +38,7 @@ pub extern "C" fn gad_write_shape(out: &mut [u8], codes: &[u32]) -> i64
     }
     let shape = code_cells::shape_in(codes);
     if !code_cells::shape_is_whole(codes) {
-        let outcome = crate::else_out_of_range(writing::shape_outcome(shape));
+        let outcome = cells::else_out_of_range(writing::shape_outcome(shape));
         return cells::answer(outcome, 0).0;
     }
     let written = writing::write_shape(out, shape);
@@ -79,7 +79,7 @@ fn reported_in(codes: &[u32]) -> ShapeReported
     let shape = code_cells::shape_in(codes);
     if !code_cells::shape_is_whole(codes) {
         return ShapeReported {
-            outcome: crate::else_out_of_range(writing::shape_outcome(shape)),
+            outcome: cells::else_out_of_range(writing::shape_outcome(shape)),
             quantities: quantities::no_shape(),
         };
     }
@@ -94,7 +94,7 @@ fn coded_in(given: &[i64]) -> ShapeCoded
     if !quantity_cells::shape_arrives(given) {
         let kind = quantities.kind;
         return ShapeCoded {
-            outcome: crate::else_out_of_range(records::form(kind, quantities.count)),
+            outcome: cells::else_out_of_range(records::form(kind, quantities.count)),
             shape: layout::blank_shape(Kind::Nothing),
         };
     }

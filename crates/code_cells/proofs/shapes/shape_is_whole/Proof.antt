@@ -1,49 +1,25 @@
--- `code_cells::shape_is_whole` meets its contract: what is tested before holds, so that it is the points that decide. Assumes nothing.
-use Rattle.ground.proofs.AnswerLaws.{decided}
+-- `code_cells::shape_is_whole` meets its contract: what is tested first holds, so that it is the points that decide. Assumes nothing.
+use Rattle.ground.proofs.AnswerLaws.{decided, shown, refuted}
 use borrow.Author.Needs.{needs}
 use Rattle.code_cells.proofs.shapes.shape_is_whole.Statement.{statement}
 use Rattle.code_cells.proofs.shapes.shape_is_whole.Tie as tie
-use Rattle.code_cells.proofs.shapes.shape_is_whole.Reads as reads
-use Rattle.code_cells.proofs.shapes.shape_is_whole.Lts as lts
-use Rattle.code_cells.proofs.shapes.points_are_whole.Reads as points-are-whole-reads
 
-shared-slice-read-if1 : tie.Need-shared-slice-read-if1
-shared-slice-read-if1 c = search needs
+singles-are-whole-requires : tie.Need-singles-are-whole-requires
+singles-are-whole-requires c κs = search needs
 
 returns : tie.Need-returns
-returns c = search needs
-
-shared-slice-read-if2 : tie.Need-shared-slice-read-if2
-shared-slice-read-if2 c = search needs
-
-returns-2 : tie.Need-returns-2
-returns-2 c = search needs
-
-shared-slice-read-if3 : tie.Need-shared-slice-read-if3
-shared-slice-read-if3 c = search needs
-
-returns-3 : tie.Need-returns-3
-returns-3 c = search needs
+returns c = λ w. refuted (c .before .singles-are-whole .result) (c .if1 .taken) (c .before .singles-are-whole .ensures) (w .singles)
 
 points-are-whole-requires : tie.Need-points-are-whole-requires
 points-are-whole-requires c κs = search needs
 
-returns-4 : tie.Need-returns-4
-returns-4 c =
+returns-2 : tie.Need-returns-2
+returns-2 c =
     decided (c .points-are-whole .result)
-    (λ p. record { north = c .before .before .before .before .before .if1 .left; height = c .before .before .before .if2 .left; inner = c .before .if3 .left; points = p })
+    (λ p. record { singles = shown (c .before .before .singles-are-whole .result) (c .before .if1 .left) (c .before .before .singles-are-whole .ensures); points = p })
     (λ w. w .points)
     (c .points-are-whole .ensures)
 
 pub shape-is-whole-spec : {M : Type 1} → statement M
 shape-is-whole-spec =
-    tie.close
-    (tie.spec
-    shared-slice-read-if1
-    returns
-    shared-slice-read-if2
-    returns-2
-    shared-slice-read-if3
-    returns-3
-    points-are-whole-requires
-    returns-4)
+    tie.close (tie.spec singles-are-whole-requires returns points-are-whole-requires returns-2)
