@@ -4,7 +4,7 @@ use ground::Parts;
 use ground::Refusal;
 use ground::Whole;
 ghost use mathlib.Core.Path.{_≡_};
-ghost use Prim.Native.Nat.{_<_};
+ghost use Prim.Native.Nat.{_<_, _^_};
 ghost use Rattle.cells.specs.Answers.{answerOf, givenRoom, elseOutOfRange};
 
 // 10 where what is done has no room.
@@ -34,7 +34,7 @@ pub fn else_out_of_range(outcome: Outcome) -> Outcome
 
 // The number that is handed back.
 pub fn answer(outcome: Outcome, put: usize) -> Whole
-    requires { ⌜ put < 256 ⌝ }
+    requires { ⌜ put < 2 ^ 63 ⌝ }
     ensures { λ r. ⌜ r .0 ≡ answerOf outcome put ⌝ }
 {
     match outcome {

@@ -121,7 +121,7 @@ CodesVelocityFrom cells before after n = OfArray 6 cells before after n (CodesVe
 
 pub data ChoosesIn (cells : List ℤ) (list : ℕ) (before after : List ℕ) (n : ℤ) : Type 0 where
   no-request : ((q : Request) → Says cells q → ⊥) → n ≡ negsuc 6 → after ≡ before → ChoosesIn cells list before after n
-  chosen : {q : Request} {w : Written} → Says cells q → Chooses q (receiver.Listed list) before after w
+  chosen : {q : Request} (w : Written) → Says cells q → Chooses q (receiver.Listed list) before after w
       → n ≡ answerOf (w .outcome) (w .length) → ChoosesIn cells list before after n
 
 abbrev pub ChoosesFrom : List ℤ → ℕ → List ℕ → List ℕ → ℤ → Type 0

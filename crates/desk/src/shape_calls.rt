@@ -108,6 +108,7 @@ fn put_codes(codes: &mut [u32], outcome: Outcome, shape: Shape) -> Whole
     let answer = cells::given_room(outcome, CODES, room);
     if let Outcome::Done = answer {
         code_cells::put_shape(codes, shape);
+        return cells::answer(Outcome::Done, CODES);
     }
     cells::answer(answer, CODES)
 }
@@ -119,6 +120,7 @@ fn put_quantities(out: &mut [i64], outcome: Outcome, quantities: ShapeQuantities
     let answer = cells::given_room(outcome, QUANTITIES, room);
     if let Outcome::Done = answer {
         quantity_cells::put_shape_quantities(out, quantities);
+        return cells::answer(Outcome::Done, QUANTITIES);
     }
     cells::answer(answer, QUANTITIES)
 }

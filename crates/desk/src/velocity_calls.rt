@@ -122,6 +122,7 @@ fn put_codes(codes: &mut [u32], outcome: Outcome, velocity: Velocity) -> Whole
     let answer = cells::given_room(outcome, CODES, room);
     if let Outcome::Done = answer {
         code_cells::put_velocity(codes, velocity);
+        return cells::answer(Outcome::Done, CODES);
     }
     cells::answer(answer, CODES)
 }
@@ -133,6 +134,7 @@ fn put_quantities(out: &mut [i64], outcome: Outcome, quantities: VelocityQuantit
     let answer = cells::given_room(outcome, QUANTITIES, room);
     if let Outcome::Done = answer {
         quantity_cells::put_velocity_quantities(out, quantities);
+        return cells::answer(Outcome::Done, QUANTITIES);
     }
     cells::answer(answer, QUANTITIES)
 }
