@@ -1,7 +1,6 @@
--- The same answer to two lots of numbers: where every number is the same, and where those of one are cut at what their codes
--- hold, and the others are in no fields. Assumes nothing.
+-- Two lots of numbers that are answered alike: the same, or the one cut at what its codes hold. Assumes nothing.
 use Prim.Native.Nat.{ℕ, _≤_, _<_}
-use mathlib.Core.Path.{_≡_, refl, sym, ap, subst, _∙_}
+use mathlib.Core.Path.{_≡_, refl, sym, subst, _∙_}
 use mathlib.Core.Bool.{Bool, true, false, cond}
 use mathlib.Core.List.{List, _++_}
 use native.Mathlib.Omega.{arith}
@@ -75,7 +74,8 @@ turned c = record { below = c .below-back; below-back = c .below; from = c .from
 pub record Alike (rows rows′ : List Row) (value value′ : Field → ℕ) : Type 0 where
   pub listed : Listed rows → Listed rows′
   pub listed-back : Listed rows′ → Listed rows
-  pub widths : (f : Field) → 1 ≤ tag f → tag f < 22 → widthOf rows f ≡ widthOf rows′ f
+  pub count-width : widthOf rows count ≡ widthOf rows′ count
+  pub widths : (f : Field) → 2 ≤ tag f → tag f < 22 → widthOf rows f ≡ widthOf rows′ f
   pub least : Cut 3 (value count) (value′ count)
   pub most : Cut 16 (value count) (value′ count)
   pub orientations : Cut 180 (value orientation) (value′ orientation)
@@ -88,6 +88,7 @@ alike-back : {rows rows′ : List Row} {value value′ : Field → ℕ} → Alik
 alike-back a = record {
   listed = a .listed-back;
   listed-back = a .listed;
+  count-width = sym (a .count-width);
   widths = λ f l m. sym (a .widths f l m);
   least = turned (a .least);
   most = turned (a .most);
@@ -99,13 +100,13 @@ alike-back a = record {
 }
 
 module _ {rows rows′ : List Row} {value value′ : Field → ℕ} (a : Alike rows rows′ value value′) where
-  used : (f : Field) → 1 ≤ tag f → tag f < 22 → 0 < widthOf rows′ f → 0 < widthOf rows f
+  used : (f : Field) → 2 ≤ tag f → tag f < 22 → 0 < widthOf rows′ f → 0 < widthOf rows f
   used f l m u = omega (arith, a .widths f l m)
 
   counted : CountSound rows value → CountSound rows′ value′
   counted s = record {
-    least = λ u. a .least .from (s .least (used count (omega arith) (omega arith) u));
-    most = λ u. omega (arith, a .most .below (omega (arith, s .most (used count (omega arith) (omega arith) u))));
+    least = λ u. a .least .from (s .least (omega (arith, a .count-width)));
+    most = λ u. omega (arith, a .most .below (omega (arith, s .most (omega (arith, a .count-width)))));
   }
 
   angles : AnglesSound rows value → AnglesSound rows′ value′

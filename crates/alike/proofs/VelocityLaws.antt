@@ -1,12 +1,11 @@
 -- A velocity's record that is made of cells is answered as the cells' own numbers are. Assumes nothing.
-use Prim.Native.Nat.{ℕ, _^_, _≤_, _<_}
+use Prim.Native.Nat.{ℕ, _^_, _<_}
 use mathlib.Core.Path.{_≡_, refl, sym, ap, subst, _∙_}
 use mathlib.Core.List.{List}
 use native.Mathlib.Omega.{arith}
 use Rattle.ground.specs.Answers.{outcomeNumber}
 use Rattle.ground.specs.declared.refusals.Outcome.{Outcome}
 use Rattle.layout.specs.declared.Written.{Written}
-use Rattle.layout.specs.declared.velocities.VelocityKind.{VelocityKind}
 use Rattle.layout.specs.Layout.{
   Field,
   typeNumber,
@@ -103,6 +102,7 @@ module _ (cells : List ℕ) where
   alike = subst (λ (rows : List Row). Alike rows (velocityRowsIn cells) (velocityValueOf (heldVelocity cells)) (velocityValueIn cells)) (sym rows-held) (record {
     listed = λ l. l;
     listed-back = λ l. l;
+    count-width = refl;
     widths = λ f l m. refl;
     least = cut 255 3 0 (omega arith) refl;
     most = cut 255 16 0 (omega arith) refl;
