@@ -59,7 +59,7 @@ use Rattle.trips.proofs.ShapeTrips.{type-back}
 use Rattle.cells.specs.Codes.{cellAt, capped, fromBits}
 use Rattle.cells.specs.Answers.{elseOutOfRange}
 use Rattle.cells.proofs.NumberLaws.{under}
-use Rattle.code_cells.specs.Shapes.{valueIn, rowsIn, recordIn, heldLatitude, heldLongitude, heldShape, largestNumbers, WholeSingles, WholePoints, Whole}
+use Rattle.code_cells.specs.Shapes.{valueIn, rowsIn, recordIn, heldLatitude, heldLongitude, heldShape, largestNumbers, WholeFields, WholePoints, Whole}
 use Rattle.alike.proofs.AnswerLaws.{answer-alike, writes-alike, same-kind, Cut, cut, Alike, misfit}
 
 -- ---- the type
@@ -99,7 +99,7 @@ within-at cells j (l ∷ ls) w (suc i) h =
     let e : suc j + i ≡ j + suc i = omega arith in
     subst (λ (k : ℕ). cellAt cells k ≤ getD ls i 0) e (within-at cells (suc j) ls (w .1) i (omega arith))
 
-module _ (cells : List ℕ) (long : 61 ≤ length cells) where
+module _ (cells : List ℕ) where
   -- ---- the first 61 cells
 
   abbrev first : ℕ → ℕ
@@ -158,7 +158,7 @@ module _ (cells : List ℕ) (long : 61 ≤ length cells) where
             omega (arith, no-cell (16 + 3 * i) (omega arith))
 
     count-held : heldShape cells .count ≡ first 1
-    count-held = number 1 255 (omega arith) (whole .singles 1 (omega arith))
+    count-held = number 1 255 (omega arith) (whole .points-count)
 
     rows-held : rowsOf (heldShape cells) ≡ rowsIn cells
     rows-held = λ j. shapeRows (same-kinds j) (count-held j)
@@ -166,23 +166,23 @@ module _ (cells : List ℕ) (long : 61 ≤ length cells) where
     value-held : Listed (rowsIn cells) → (f : Field) → valueOf (heldShape cells) f ≡ valueIn cells f
     value-held l typeNumber = ap typeOf same-kinds ∙ type-back (first 0) (first 1) l
     value-held l count = count-held
-    value-held l (south zero) = sign 2 (omega arith) (whole .singles 2 (omega arith))
+    value-held l (south zero) = sign 2 (omega arith) (whole .sign)
     value-held l (south (suc i)) = ap (λ (c : LatitudeCode). bitOf (c .0)) (latitude-at i) ∙ bit-back (first (16 + 3 * i)) (point-sign i)
     value-held l (latitude zero) = same-cell 3 (omega arith)
     value-held l (latitude (suc i)) = ap (λ (c : LatitudeCode). c .1) (latitude-at i)
     value-held l (longitude zero) = ap (λ (c : ℕ). complement (fromBits c)) (same-cell 4 (omega arith))
     value-held l (longitude (suc i)) = ap (λ (c : LongitudeCode). complement (c .0)) (longitude-at i)
-    value-held l depth = sign 5 (omega arith) (whole .singles 5 (omega arith))
-    value-held l altitude = number 6 65535 (omega arith) (whole .singles 6 (omega arith))
-    value-held l uncertainty = number 7 255 (omega arith) (whole .singles 7 (omega arith))
-    value-held l semiMajor = number 8 255 (omega arith) (whole .singles 8 (omega arith))
-    value-held l semiMinor = number 9 255 (omega arith) (whole .singles 9 (omega arith))
-    value-held l orientation = number 10 255 (omega arith) (whole .singles 10 (omega arith))
-    value-held l altitudeUncertainty = number 11 255 (omega arith) (whole .singles 11 (omega arith))
-    value-held l innerRadius = number 12 65535 (omega arith) (whole .singles 12 (omega arith))
-    value-held l offset = number 13 255 (omega arith) (whole .singles 13 (omega arith))
-    value-held l included = number 14 255 (omega arith) (whole .singles 14 (omega arith))
-    value-held l confidence = number 15 255 (omega arith) (whole .singles 15 (omega arith))
+    value-held l depth = sign 5 (omega arith) (whole .others 0 (omega arith))
+    value-held l altitude = number 6 65535 (omega arith) (whole .others 1 (omega arith))
+    value-held l uncertainty = number 7 255 (omega arith) (whole .others 2 (omega arith))
+    value-held l semiMajor = number 8 255 (omega arith) (whole .others 3 (omega arith))
+    value-held l semiMinor = number 9 255 (omega arith) (whole .others 4 (omega arith))
+    value-held l orientation = number 10 255 (omega arith) (whole .others 5 (omega arith))
+    value-held l altitudeUncertainty = number 11 255 (omega arith) (whole .others 6 (omega arith))
+    value-held l innerRadius = number 12 65535 (omega arith) (whole .others 7 (omega arith))
+    value-held l offset = number 13 255 (omega arith) (whole .others 8 (omega arith))
+    value-held l included = number 14 255 (omega arith) (whole .others 9 (omega arith))
+    value-held l confidence = number 15 255 (omega arith) (whole .others 10 (omega arith))
     value-held l bearing = refl
     value-held l horizontalSpeed = refl
     value-held l down = refl
@@ -227,54 +227,36 @@ module _ (cells : List ℕ) (long : 61 ≤ length cells) where
     confidences = cut-cell 15 101 (omega arith) (omega arith);
   })
 
-  -- cells have 32 bits: a longitude's number of more would be read as -1, which is in its field
-  module _ (cell : (i : ℕ) → cellAt cells i < 4294967296) where
-    module _ (h : InFields (rowsIn cells) (valueIn cells)) where
-      code : (f : Field) → valueIn cells f < 2 ^ shapeWidest f
-      code = code-of (kindOf (first 0)) (first 1) (valueIn cells) h
+  module _ (h : InFields (rowsIn cells) (valueIn cells)) where
+    code : (f : Field) → valueIn cells f < 2 ^ shapeWidest f
+    code = code-of (kindOf (first 0)) (first 1) (valueIn cells) h
 
-      known : (i largest : ℕ) → i < 61 → first i ≤ largest → cellAt cells i ≤ largest
-      known i largest l m = omega (arith, same-cell i l)
+    known : (i largest : ℕ) → i < 61 → first i ≤ largest → cellAt cells i ≤ largest
+    known i largest l m = omega (arith, same-cell i l)
 
-      singles : WholeSingles cells
-      singles i l =
-          subst (λ (k : ℕ). cellAt cells k ≤ getD largestNumbers i 0) (zero-add i) (within-at cells 0 largestNumbers (
-            omega (arith, cell 0),
+    fields : WholeFields cells
+    fields =
+        within-at cells 5 largestNumbers (
+          known 5 1 (omega arith) (omega (arith, code depth)),
+          (
+            known 6 65535 (omega arith) (omega (arith, code altitude)),
             (
-              known 1 255 (omega arith) (omega (arith, code count)),
+              known 7 255 (omega arith) (omega (arith, code uncertainty)),
               (
-                known 2 1 (omega arith) (omega (arith, code (south 0))),
+                known 8 255 (omega arith) (omega (arith, code semiMajor)),
                 (
-                  omega (arith, cell 3),
+                  known 9 255 (omega arith) (omega (arith, code semiMinor)),
                   (
-                    omega (arith, cell 4),
+                    known 10 255 (omega arith) (omega (arith, code orientation)),
                     (
-                      known 5 1 (omega arith) (omega (arith, code depth)),
+                      known 11 255 (omega arith) (omega (arith, code altitudeUncertainty)),
                       (
-                        known 6 65535 (omega arith) (omega (arith, code altitude)),
+                        known 12 65535 (omega arith) (omega (arith, code innerRadius)),
                         (
-                          known 7 255 (omega arith) (omega (arith, code uncertainty)),
+                          known 13 255 (omega arith) (omega (arith, code offset)),
                           (
-                            known 8 255 (omega arith) (omega (arith, code semiMajor)),
-                            (
-                              known 9 255 (omega arith) (omega (arith, code semiMinor)),
-                              (
-                                known 10 255 (omega arith) (omega (arith, code orientation)),
-                                (
-                                  known 11 255 (omega arith) (omega (arith, code altitudeUncertainty)),
-                                  (
-                                    known 12 65535 (omega arith) (omega (arith, code innerRadius)),
-                                    (
-                                      known 13 255 (omega arith) (omega (arith, code offset)),
-                                      (
-                                        known 14 255 (omega arith) (omega (arith, code included)),
-                                        (known 15 255 (omega arith) (omega (arith, code confidence)), tt),
-                                      ),
-                                    ),
-                                  ),
-                                ),
-                              ),
-                            ),
+                            known 14 255 (omega arith) (omega (arith, code included)),
+                            (known 15 255 (omega arith) (omega (arith, code confidence)), tt),
                           ),
                         ),
                       ),
@@ -283,14 +265,20 @@ module _ (cells : List ℕ) (long : 61 ≤ length cells) where
                 ),
               ),
             ),
-          ) i l)
+          ),
+        )
 
-      signs : WholePoints cells
-      signs i l = known (16 + 3 * i) 1 (omega arith) (omega (arith, code (south (suc i))))
+    signs : WholePoints cells
+    signs i l = known (16 + 3 * i) 1 (omega arith) (omega (arith, code (south (suc i))))
 
-      whole-of : Whole cells
-      whole-of = record { singles = singles; points = signs }
+    whole-of : Whole cells
+    whole-of = record {
+      points-count = known 1 255 (omega arith) (omega (arith, code count));
+      sign = known 2 1 (omega arith) (omega (arith, code (south 0)));
+      others = fields;
+      points = signs;
+    }
 
-    pub held-misfit : (Whole cells → ⊥) → (o : Outcome) (room : ℕ) → WriteAnswer (rowsOf (heldShape cells)) (valueOf (heldShape cells)) (lengthOf (rowsOf (heldShape cells))) (outcomeNumber o)
-        → WriteAnswer (rowsIn cells) (valueIn cells) room (outcomeNumber (elseOutOfRange o))
-    held-misfit n o room = misfit o alike (λ h. n (whole-of h)) room
+  pub held-misfit : (Whole cells → ⊥) → (o : Outcome) (room : ℕ) → WriteAnswer (rowsOf (heldShape cells)) (valueOf (heldShape cells)) (lengthOf (rowsOf (heldShape cells))) (outcomeNumber o)
+      → WriteAnswer (rowsIn cells) (valueIn cells) room (outcomeNumber (elseOutOfRange o))
+  held-misfit n o room = misfit o alike (λ h. n (whole-of h)) room

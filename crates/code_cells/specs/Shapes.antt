@@ -148,18 +148,19 @@ heldShape cells = record {
 
 -- ---- the numbers that their codes' types hold
 
--- the largest number of each code before the points; any number names a type or none
+-- the largest of each code from D to the confidence, cells 5 to 15
 abbrev pub largestNumbers : List ℕ
-largestNumbers =
-    4294967295 ∷ 255 ∷ 1 ∷ 4294967295 ∷ 4294967295 ∷ 1 ∷ 65535 ∷ 255 ∷ 255 ∷ 255 ∷ 255 ∷ 255 ∷ 65535 ∷ 255 ∷ 255 ∷ 255 ∷ []
+largestNumbers = 1 ∷ 65535 ∷ 255 ∷ 255 ∷ 255 ∷ 255 ∷ 255 ∷ 65535 ∷ 255 ∷ 255 ∷ 255 ∷ []
 
-abbrev pub WholeSingles : List ℕ → Type 0
-WholeSingles cells = (i : ℕ) → i < 16 → cellAt cells i ≤ getD largestNumbers i 0
+abbrev pub WholeFields : List ℕ → Type 0
+WholeFields cells = (i : ℕ) → i < 11 → cellAt cells (5 + i) ≤ getD largestNumbers i 0
 
--- of a point's codes only the sign's type holds less than a cell
 abbrev pub WholePoints : List ℕ → Type 0
 WholePoints cells = (i : ℕ) → i < 15 → cellAt cells (16 + 3 * i) ≤ 1
 
+-- any number names a type or none, and a latitude's or a longitude's type holds what a cell does
 pub record Whole (cells : List ℕ) : Type 0 where
-  pub singles : WholeSingles cells
+  pub points-count : cellAt cells 1 ≤ 255
+  pub sign : cellAt cells 2 ≤ 1
+  pub others : WholeFields cells
   pub points : WholePoints cells

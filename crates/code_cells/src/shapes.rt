@@ -16,7 +16,7 @@ ghost use mathlib.Core.List.{_++_};
 ghost use Prim.Native.Nat.{_≤_};
 ghost use lib.ListN.{length, drop};
 ghost use Rattle.ground.specs.Answers.{Decides};
-ghost use Rattle.code_cells.specs.Shapes.{shapeCells, singleCells, heldShape, heldLatitude, heldLongitude, Whole, WholeSingles, WholePoints, largestNumbers};
+ghost use Rattle.code_cells.specs.Shapes.{shapeCells, singleCells, heldShape, heldLatitude, heldLongitude, Whole, WholeFields, WholePoints, largestNumbers};
 ghost use Rattle.layout.specs.Shapes.{upto};
 ghost use lib.Seq.{sets};
 ghost use Rattle.code_cells.specs.Shapes.{pointCells};
@@ -148,20 +148,27 @@ pub fn shape_is_whole(codes: &[u32]) -> bool
     requires { ⌜ 61 ≤ length (now codes) ⌝ }
     ensures { λ r. ⌜ Decides r (Whole (now (codes .entry))) ⌝ }
 {
-    if !singles_are_whole(codes) {
+    if 255 < codes[1] {
+        return false;
+    }
+    if 1 < codes[2] {
+        return false;
+    }
+    if !fields_are_whole(codes) {
         return false;
     }
     points_are_whole(codes)
 }
 
-fn singles_are_whole(codes: &[u32]) -> bool
+// From D to the confidence.
+fn fields_are_whole(codes: &[u32]) -> bool
     requires { ⌜ 61 ≤ length (now codes) ⌝ }
-    ensures { λ r. ⌜ Decides r (WholeSingles (now (codes .entry))) ⌝ }
+    ensures { λ r. ⌜ Decides r (WholeFields (now (codes .entry))) ⌝ }
 {
     let largest = largest_numbers();
     let mut i = 0;
-    while i < 16 {
-        if largest[i] < codes[i] {
+    while i < 11 {
+        if largest[i] < codes[5 + i] {
             return false;
         }
         i += 1;
@@ -169,28 +176,11 @@ fn singles_are_whole(codes: &[u32]) -> bool
     true
 }
 
-// The largest number that the type of each code before the points holds.
-fn largest_numbers() -> [u32; 16]
+// The largest number that the type of each of these codes holds.
+fn largest_numbers() -> [u32; 11]
     ensures { λ r. ⌜ r ≡ largestNumbers ⌝ }
 {
-    [
-        4294967295,
-        255,
-        1,
-        4294967295,
-        4294967295,
-        1,
-        65535,
-        255,
-        255,
-        255,
-        255,
-        255,
-        65535,
-        255,
-        255,
-        255,
-    ]
+    [1, 65535, 255, 255, 255, 255, 255, 65535, 255, 255, 255]
 }
 
 // A point's sign is 0 or 1; its other codes' types hold every number.
