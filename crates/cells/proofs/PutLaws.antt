@@ -1,18 +1,22 @@
 -- What is put into an array, by its room; and only one answer and one array. Assumes nothing.
 use mathlib.Core.Path.{_≡_, refl, sym, ap, _∙_}
-use mathlib.Core.Bool.{true, false}
+use mathlib.Core.Bool.{Bool, true, false}
 use mathlib.Core.List.{List, _++_}
 use Prim.Native.Nat.{ℕ, _-_, _≤_, _<_}
 use native.Mathlib.Omega.{arith}
 use lib.IntN.{ℤ, pos, negsuc}
 use lib.ListN.{length, drop}
-use borrow.Author.Tests.{lt-ltb, le-ltb}
+use lib.Dec.{ltb}
+use borrow.Author.Tests.{ltb-false, lt-ltb, le-ltb}
 use Rattle.ground.specs.Answers.{numberOf, handed}
 use Rattle.ground.specs.declared.refusals.Outcome.{Outcome}
 use Rattle.ground.specs.declared.refusals.Outcome.the-variants.{Done, Refused}
 use Rattle.ground.specs.declared.refusals.Refusal.{Refusal}
 use Rattle.ground.specs.declared.refusals.Refusal.the-variants.{BufferTooShort}
 use Rattle.cells.specs.Answers.{answerOf, givenRoom, PutsCells, OfArray, too-short, long-enough}
+
+refused-not-done : {why : Refusal} → _≡_ {A = Outcome} Done (Refused why) → ⊥
+refused-not-done e = let z : _≡_ {A = ℕ} 0 1 = cc in absurd (omega arith)
 
 module _ {A : Type 0} {cells before after : List A} {n : ℤ} where
   -- by the outcome that is left when the room is looked at
@@ -45,3 +49,12 @@ module _ {A B : Type 0} {cells : ℕ} {given : List A} {before after after′ : 
   of-array-one (too-short h a b) (long-enough h′ s) one = absurd (omega arith)
   of-array-one (long-enough h s) (too-short h′ a b) one = absurd (omega arith)
   of-array-one (long-enough h s) (long-enough h′ s′) one = one s s′
+
+-- what is done, the room looked at, has room
+pub had-room : (outcome : Outcome) (wanted room : ℕ) → Done ≡ givenRoom outcome wanted room → wanted ≤ room
+had-room Done wanted room e = by (ltb room wanted) refl
+  where
+    by : (t : Bool) → ltb room wanted ≡ t → wanted ≤ room
+    by true h = absurd (refused-not-done {why = BufferTooShort} (e ∙ simp h))
+    by false h = ltb-false room wanted h
+had-room (Refused why) wanted room e = absurd (refused-not-done e)

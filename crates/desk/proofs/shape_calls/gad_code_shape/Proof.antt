@@ -1,35 +1,30 @@
+-- What the inner function hands back is put. Assumes nothing.
+use mir.Syntax.{w64}
+use mir.Facts.{toZ-ofZ}
+use mathlib.Core.Path.{refl}
+use native.Mathlib.Omega.{arith}
+use Rattle.cells.specs.Answers.{too-short, long-enough}
 use borrow.Author.Needs.{needs}
 use Rattle.desk.proofs.shape_calls.gad_code_shape.Statement.{statement}
 use Rattle.desk.proofs.shape_calls.gad_code_shape.Tie as tie
-use Rattle.desk.proofs.shape_calls.gad_code_shape.Reads as reads
-use Rattle.desk.proofs.shape_calls.gad_code_shape.Lts as lts
-use Rattle.cells.proofs.answer.Reads as answer-reads
-use Rattle.desk.proofs.shape_calls.coded_in.Reads as coded-in-reads
-use Rattle.desk.proofs.shape_calls.put_codes.Reads as put-codes-reads
 
--- src/shape_calls.rt:68:16
 answer-requires : tie.Need-answer-requires
 answer-requires c κs = search needs
 
--- src/shape_calls.rt:68:9
 returns : tie.Need-returns
-returns c = ?
+returns c = rw (toZ-ofZ {w = w64} {z = c .before .answer .result .0} (search needs)) (too-short (omega arith) (c .before .answer .ensures) refl)
 
--- src/shape_calls.rt:70:9
 coded-in-requires : tie.Need-coded-in-requires
 coded-in-requires c κs = search needs
 
--- src/shape_calls.rt:72:5
 put-codes-requires : tie.Need-put-codes-requires
 put-codes-requires c κs = search needs
 
--- src/shape_calls.rt:63:1
 same-length : tie.Need-same-length
 same-length c = search needs
 
--- src/shape_calls.rt:63:1
 returns-2 : tie.Need-returns-2
-returns-2 c = ?
+returns-2 c = rw (toZ-ofZ {w = w64} {z = c .before .before .before .put-codes .result .0} (search needs)) (long-enough (omega arith) (record { coded = c .before .before .before .before .before .coded-in .result; promise = c .before .before .before .before .before .coded-in .ensures; put = c .before .before .before .put-codes .ensures }))
 
 pub gad-code-shape-spec : {M : Type 1} → statement M
 gad-code-shape-spec =

@@ -1,55 +1,47 @@
+-- The request that the cells say is chosen for. Assumes nothing.
+use mir.Syntax.{w64}
+use mir.Facts.{toZ-ofZ}
+use mathlib.Core.Path.{refl}
+use native.Mathlib.Omega.{arith}
+use Rattle.cells.specs.Answers.{too-short, long-enough}
+use Rattle.desk.proofs.DeskLaws.{chosen-within}
+use Rattle.desk.specs.Promises.{no-request, chosen}
 use borrow.Author.Needs.{needs}
 use Rattle.desk.proofs.single_calls.gad_choose.Statement.{statement}
 use Rattle.desk.proofs.single_calls.gad_choose.Tie as tie
-use Rattle.desk.proofs.single_calls.gad_choose.Reads as reads
-use Rattle.desk.proofs.single_calls.gad_choose.Lts as lts
-use Rattle.cells.proofs.answer.Reads as answer-reads
-use Rattle.choice.proofs.choose.Reads as choose-reads
-use Rattle.request_cells.proofs.request_in.Reads as request-in-reads
 
--- src/single_calls.rt:14:16
 answer-requires : tie.Need-answer-requires
 answer-requires c κs = search needs
 
--- src/single_calls.rt:14:9
 returns : tie.Need-returns
-returns c = ?
+returns c = rw (toZ-ofZ {w = w64} {z = c .before .answer .result .0} (search needs)) (too-short (omega arith) (c .before .answer .ensures) refl)
 
--- src/single_calls.rt:16:33
 request-in-requires : tie.Need-request-in-requires
 request-in-requires c κs = search needs
 
--- src/single_calls.rt:16:24
 enum-known-asked : tie.Need-enum-known-asked
 enum-known-asked c = search needs
 
--- src/single_calls.rt:17:47
 enum-told : tie.Need-enum-told
 enum-told c = search needs
 
--- src/single_calls.rt:17:16
 answer-requires-2 : tie.Need-answer-requires-2
 answer-requires-2 c κs = search needs
 
--- src/single_calls.rt:17:9
 returns-2 : tie.Need-returns-2
-returns-2 c = ?
+returns-2 c = rw (toZ-ofZ {w = w64} {z = c .before .answer2 .result .0} (search needs)) (long-enough (omega arith) (no-request (rw (c .before .before .enum-told .given .1) at (c .before .before .before .before .request-in .ensures)) (c .before .answer2 .ensures) refl))
 
--- src/single_calls.rt:19:9
 choose-requires : tie.Need-choose-requires
 choose-requires c κs = search needs
 
--- src/single_calls.rt:21:5
 answer-requires-3 : tie.Need-answer-requires-3
-answer-requires-3 c κs = ?
+answer-requires-3 c κs = omega (arith, chosen-within (c .before .before .choose .result) (c .before .before .choose .ensures))
 
--- src/single_calls.rt:9:1
 same-length : tie.Need-same-length
 same-length c = search needs
 
--- src/single_calls.rt:9:1
 returns-3 : tie.Need-returns-3
-returns-3 c = ?
+returns-3 c = rw (toZ-ofZ {w = w64} {z = c .before .answer3 .result .0} (search needs)) (long-enough (omega arith) (chosen (c .before .before .before .before .choose .result) (rw (c .before .before .before .before .before .before .before .asked .given .1) at (c .before .before .before .before .before .before .before .before .before .request-in .ensures)) (c .before .before .before .before .choose .ensures) (c .before .answer3 .ensures)))
 
 pub gad-choose-spec : {M : Type 1} → statement M
 gad-choose-spec =

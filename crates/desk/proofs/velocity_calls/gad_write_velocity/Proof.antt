@@ -1,62 +1,51 @@
+-- The record made of the cells is written, or refused as the cells' numbers are. Assumes nothing.
+use mir.Syntax.{w64}
+use mir.Facts.{toZ-ofZ}
+use mathlib.Core.Path.{refl}
+use native.Mathlib.Omega.{arith}
+use Rattle.cells.specs.Answers.{too-short, long-enough}
+use Rattle.ground.proofs.AnswerLaws.{shown, refuted}
+use Rattle.alike.proofs.VelocityLaws.{held-velocity-writes, held-velocity-misfit}
+use Rattle.desk.proofs.DeskLaws.{written-within, misfit-told}
 use borrow.Author.Needs.{needs}
 use Rattle.desk.proofs.velocity_calls.gad_write_velocity.Statement.{statement}
 use Rattle.desk.proofs.velocity_calls.gad_write_velocity.Tie as tie
-use Rattle.desk.proofs.velocity_calls.gad_write_velocity.Reads as reads
-use Rattle.desk.proofs.velocity_calls.gad_write_velocity.Lts as lts
-use Rattle.cells.proofs.answer.Reads as answer-reads
-use Rattle.cells.proofs.else_out_of_range.Reads as else-out-of-range-reads
-use Rattle.code_cells.proofs.velocity_in.Reads as velocity-in-reads
-use Rattle.code_cells.proofs.velocity_is_whole.Reads as velocity-is-whole-reads
-use Rattle.velocities.proofs.velocity_outcome.Reads as velocity-outcome-reads
-use Rattle.velocities.proofs.write_velocity.Reads as write-velocity-reads
 
--- src/velocity_calls.rt:38:16
 answer-requires : tie.Need-answer-requires
 answer-requires c κs = search needs
 
--- src/velocity_calls.rt:38:9
 returns : tie.Need-returns
-returns c = ?
+returns c = rw (toZ-ofZ {w = w64} {z = c .before .answer .result .0} (search needs)) (too-short (omega arith) (c .before .answer .ensures) refl)
 
--- src/velocity_calls.rt:40:9
 velocity-in-requires : tie.Need-velocity-in-requires
 velocity-in-requires c κs = search needs
 
--- src/velocity_calls.rt:41:9
 velocity-is-whole-requires : tie.Need-velocity-is-whole-requires
 velocity-is-whole-requires c κs = search needs
 
--- src/velocity_calls.rt:42:48
 velocity-outcome-requires : tie.Need-velocity-outcome-requires
 velocity-outcome-requires c κs = search needs
 
--- src/velocity_calls.rt:42:13
 else-out-of-range-requires : tie.Need-else-out-of-range-requires
 else-out-of-range-requires c κs = search needs
 
--- src/velocity_calls.rt:43:16
 answer-requires-2 : tie.Need-answer-requires-2
 answer-requires-2 c κs = search needs
 
--- src/velocity_calls.rt:43:9
 returns-2 : tie.Need-returns-2
-returns-2 c = ?
+returns-2 c = rw (toZ-ofZ {w = w64} {z = c .before .answer2 .result .0} (search needs)) (long-enough (omega arith) (misfit-told (c .before .before .before .velocity-outcome .result) (held-velocity-misfit (c .before .before .before .before .before .before .before .before .before .before .args .codes .now) (refuted (c .before .before .before .before .before .velocity-is-whole .result) (c .before .before .before .before .if2 .taken) (c .before .before .before .before .before .velocity-is-whole .ensures)) (c .before .before .before .velocity-outcome .result) _ (rw (c .before .before .before .before .before .before .velocity-in .ensures) at (c .before .before .before .velocity-outcome .ensures))) (rw (c .before .before .else-out-of-range .ensures) at (c .before .answer2 .ensures))))
 
--- src/velocity_calls.rt:45:9
 write-velocity-requires : tie.Need-write-velocity-requires
 write-velocity-requires c κs = search needs
 
--- src/velocity_calls.rt:47:5
 answer-requires-3 : tie.Need-answer-requires-3
-answer-requires-3 c κs = ?
+answer-requires-3 c κs = omega (arith, written-within (c .before .before .write-velocity .ensures))
 
--- src/velocity_calls.rt:33:1
 same-length : tie.Need-same-length
 same-length c = search needs
 
--- src/velocity_calls.rt:33:1
 returns-3 : tie.Need-returns-3
-returns-3 c = ?
+returns-3 c = rw (toZ-ofZ {w = w64} {z = c .before .answer3 .result .0} (search needs)) (long-enough (omega arith) (record { written = c .before .before .before .before .write-velocity .result; promise = held-velocity-writes (c .before .before .before .before .before .before .before .before .before .before .before .before .args .codes .now) (shown (c .before .before .before .before .before .before .before .velocity-is-whole .result) (c .before .before .before .before .before .before .if2 .left) (c .before .before .before .before .before .before .before .velocity-is-whole .ensures)) _ _ (c .before .before .before .before .write-velocity .result) (rw (c .before .before .before .before .before .before .before .before .velocity-in .ensures) at (c .before .before .before .before .write-velocity .ensures)); told = c .before .answer3 .ensures }))
 
 pub gad-write-velocity-spec : {M : Type 1} → statement M
 gad-write-velocity-spec =
