@@ -1,3 +1,4 @@
-pub mod FieldLaws
-pub mod AskingLaws
 pub mod AnswerLaws
+pub mod AskingLaws
+pub mod EntryLaws
+pub mod FieldLaws
