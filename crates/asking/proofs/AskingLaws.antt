@@ -4,7 +4,7 @@ use mathlib.Core.Bool.{Bool, true, false}
 use mathlib.Core.List.{List}
 use Prim.Native.Nat.{ℕ, _<_, _≤_, _^_}
 use native.Mathlib.Omega.{arith}
-use lib.Dec.{T, eqb}
+use lib.Dec.{eqb}
 use borrow.Author.Tests.{eqb-true, eqb-false}
 use lib.IntN.{ℤ, pos}
 use lib.Signed.{mag}
@@ -53,9 +53,6 @@ unsigned-dash : {f : List ℕ} {x : ℕ} → SaysUnsigned f x → IsAbsent f →
 unsigned-dash s e = dash-is-none e (s .means)
 
 -- ---- a field that was read
-
-pub not-same : {P : Type 0} {t : Bool} → (P → t ≡ true) → t ≡ false → P → ⊥
-not-same f e p = subst T (sym (f p) ∙ e) tt
 
 module _ {n : Numeral} (f : List ℕ) (e : n ≡ numeralOf f) where
   pub unsigned-says : {r : Unsigned32} {x : ℕ} → r ≡ u32.Number x → AsUnsigned32 n r → SaysUnsigned f x

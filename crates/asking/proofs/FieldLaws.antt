@@ -6,7 +6,6 @@ use mathlib.Core.Logic.{⊎-elim}
 use Prim.Native.Nat.{ℕ, zero, suc, _+_, _-_, _≤_, _<_}
 use native.Mathlib.Omega.{arith}
 use native.Mathlib.Nat.{add-zero}
-use native.Mathlib.Numerals.{add-one}
 use borrow.Author.Count.{below-more}
 use borrow.Author.Tests.{ne-eqb}
 use lib.Dec.{eqb}
@@ -14,7 +13,9 @@ use lib.ListN.{length, getD, set, take, drop, length-drop, length-set}
 use lib.Seq.{drop-drop, getD-drop, getD-set-same, getD-set-other, take-all}
 use Rattle.numerals.specs.Marks.{FirstMark}
 use Rattle.text.proofs.OutputLaws.{split}
-use Rattle.asking.specs.Fields.{fieldsFrom, fieldsOf, fieldAt, Starts, Stands, startAt, Eight}
+use Rattle.asking.specs.declared.entries.Entry.{Entry}
+use Rattle.asking.specs.Fields.{fieldsFrom, fieldsOf, fieldAt, Starts}
+use Rattle.asking.specs.Entries.{Holds, EntryAt, Eight}
 
 -- ---- the first field, up to the first space or to the end
 
@@ -83,71 +84,57 @@ module _ {line : List ℕ} {number from r : ℕ} (s : Starts line number from) (
         rest = rw (← drop-drop 1 number (fieldsOf line), ← s .rest, marked m h);
       }
 
-  stands : Stands line number from r
+  stands : take (r - from) (drop from line) ≡ fieldAt line number
   stands =
       let first : getD (fieldsOf (drop from line)) 0 [] ≡ fieldAt line number = rw (s .rest, getD-drop, add-zero) in
-      record {
-        order = m .after;
-        inside = m .inside;
-        octets =
-            ⊎-elim (λ (h : r < length line). ap (λ (fs : List (List ℕ)). getD fs 0 []) (sym (marked m h)) ∙ first)
-            (λ (h : length line ≤ r). ap (λ (fs : List (List ℕ)). getD fs 0 []) (sym (unmarked m h)) ∙ first)
-            (split r (length line));
-      }
+      ⊎-elim (λ (h : r < length line). ap (λ (fs : List (List ℕ)). getD fs 0 []) (sym (marked m h)) ∙ first)
+      (λ (h : length line ≤ r). ap (λ (fs : List (List ℕ)). getD fs 0 []) (sym (unmarked m h)) ∙ first)
+      (split r (length line))
 
--- ---- the ends of fields
+-- ---- what the fields hold
 
-abbrev EndsAt : List ℕ → List ℕ → ℕ → Type 0
-EndsAt line ends number = Stands line number (startAt ends number) (getD ends number 0)
+abbrev HeldAt : List ℕ → List ℕ → List ℕ → ℕ → Type 0
+HeldAt line marks sizes number = Holds (fieldAt line number) (getD marks number 0) (getD sizes number 0)
 
-pub start-past : (ends : List ℕ) (number : ℕ) → 0 < number → getD ends (number - 1) 0 + 1 ≡ startAt ends number
-start-past ends zero h = absurd (omega arith)
-start-past ends (suc number) h =
-    let e : suc number - 1 ≡ number = omega arith in
-    rw e
-
--- the fields before that number end there, and the field of that number starts at `from`
-pub record Parted (line ends : List ℕ) (number from : ℕ) : Type 0 where
-  pub room : length ends ≡ 8
+-- the fields before that number are held, and the field of that number starts at `from`
+pub record Parted (line marks sizes : List ℕ) (number from : ℕ) : Type 0 where
+  pub marks-room : length marks ≡ 8
+  pub sizes-room : length sizes ≡ 8
   pub starts : Starts line number from
-  pub start : startAt ends number ≡ from
-  pub each : (k : ℕ) → k < number → EndsAt line ends k
+  pub each : (k : ℕ) → k < number → HeldAt line marks sizes k
 
-pub parted-none : {line ends : List ℕ} → length ends ≡ 8 → Parted line ends 0 0
-parted-none e = record { room = e; starts = record { inside = omega arith; rest = refl }; start = refl; each = λ k h. absurd (omega arith) }
+pub parted-none : {line marks sizes : List ℕ} → length marks ≡ 8 → length sizes ≡ 8 → Parted line marks sizes 0 0
+parted-none a b = record { marks-room = a; sizes-room = b; starts = record { inside = omega arith; rest = refl }; each = λ k h. absurd (omega arith) }
 
-module _ {line ends : List ℕ} {number from r : ℕ} (p : Parted line ends number from) (m : FirstMark 32 line from r) (l : number < 8) where
-  start-kept : (k : ℕ) → k ≤ number → startAt (set ends number r) k ≡ startAt ends k
-  start-kept zero h = refl
-  start-kept (suc k) h = rw (getD-set-other ends number k r 0 (λ e. absurd (omega arith)))
-
-  one-more : (k : ℕ) → k < number + 1 → EndsAt line (set ends number r) k
-  one-more = below-more (EndsAt line (set ends number r)) number others this
+module _ {line marks sizes : List ℕ} {number from : ℕ} {r : Entry} (p : Parted line marks sizes number from) (e : EntryAt line from r) (l : number < 8) where
+  one-more : (k : ℕ) → k < number + 1 → HeldAt line (set marks number (r .mark)) (set sizes number (r .size)) k
+  one-more = below-more (HeldAt line (set marks number (r .mark)) (set sizes number (r .size))) number others this
     where
-      this : EndsAt line (set ends number r) number
-      this = rw (start-kept number (omega arith), getD-set-same ends number r 0 (omega (arith, p .room)), p .start) (stands (p .starts) m)
+      this : HeldAt line (set marks number (r .mark)) (set sizes number (r .size)) number
+      this =
+          rw (getD-set-same marks number (r .mark) 0 (omega (arith, p .marks-room)), getD-set-same sizes number (r .size) 0 (omega (arith, p .sizes-room)), ← stands (p .starts) (e .end))
+          (e .holds)
 
-      others : (k : ℕ) → k < number → EndsAt line (set ends number r) k
-      others k h = rw (start-kept k (omega arith), getD-set-other ends number k r 0 (λ e. absurd (omega arith))) (p .each k h)
+      others : (k : ℕ) → k < number → HeldAt line (set marks number (r .mark)) (set sizes number (r .size)) k
+      others k h =
+          rw (getD-set-other marks number k (r .mark) 0 (λ e. absurd (omega arith)), getD-set-other sizes number k (r .size) 0 (λ e. absurd (omega arith)))
+          (p .each k h)
 
-  pub parted-more : r < length line → Parted line (set ends number r) (number + 1) (r + 1)
+  pub parted-more : r .end < length line → Parted line (set marks number (r .mark)) (set sizes number (r .size)) (number + 1) (r .end + 1)
   parted-more h =
       record {
-        room = rw length-set (p .room);
-        starts = start-next (p .starts) m h;
-        start = rw (add-one number, getD-set-same ends number r 0 (omega (arith, p .room)));
+        marks-room = rw length-set (p .marks-room);
+        sizes-room = rw length-set (p .sizes-room);
+        starts = start-next (p .starts) (e .end) h;
         each = one-more;
       }
 
-pub too-few : {line ends : List ℕ} {number from r : ℕ} → Parted line ends number from → FirstMark 32 line from r → number < 7 → r ≡ length line → length (fieldsOf line) ≡ 8 → ⊥
-too-few p m l e n = omega (arith, last (p .starts) m (omega arith))
+  pub too-few : number < 7 → r .end ≡ length line → length (fieldsOf line) ≡ 8 → ⊥
+  too-few h f n = omega (arith, last (p .starts) (e .end) (omega arith))
 
-module _ {line ends : List ℕ} {from r : ℕ} (p : Parted line ends 7 from) (m : FirstMark 32 line from r) where
-  pub too-many : r < length line → length (fieldsOf line) ≡ 8 → ⊥
-  too-many h n = omega (arith, not-last (p .starts) m h)
+module _ {line marks sizes : List ℕ} {from : ℕ} {r : Entry} (p : Parted line marks sizes 7 from) (e : EntryAt line from r) where
+  pub too-many : r .end < length line → length (fieldsOf line) ≡ 8 → ⊥
+  too-many h n = omega (arith, not-last (p .starts) (e .end) h)
 
-  pub parted-last : length line ≤ r → Eight line (set ends 7 r)
-  parted-last h = record { eight = last (p .starts) m h; each = one-more p m (omega arith) }
-
-pub field-octets : {line ends : List ℕ} {number from end : ℕ} → Eight line ends → number < 8 → (from ≡ startAt ends number) × (end ≡ getD ends number 0) → take (end - from) (drop from line) ≡ fieldAt line number
-field-octets {number = number} e l at = rw (at .0, at .1) (e .each number l .octets)
+  pub parted-last : length line ≤ r .end → Eight line (set marks 7 (r .mark)) (set sizes 7 (r .size))
+  parted-last h = record { eight = last (p .starts) (e .end) h; each = one-more p e (omega arith) }

@@ -1,9 +1,9 @@
 -- The fields of a line. Assumes nothing.
 use mathlib.Core.Path.{_≡_}
-use mathlib.Core.Bool.{Bool, true, false, cond}
+use mathlib.Core.Bool.{cond}
 use mathlib.Core.List.{List, [], _∷_, _++_}
-use Prim.Native.Nat.{ℕ, zero, suc, _+_, _-_, _≤_, _<_}
-use lib.ListN.{length, getD, take, drop}
+use Prim.Native.Nat.{ℕ, _≤_}
+use lib.ListN.{length, getD, drop}
 use lib.Dec.{eqb}
 
 -- the fields of a line whose first field starts with f: a field ends at each space (32)
@@ -24,25 +24,3 @@ fieldAt line number = getD (fieldsOf line) number []
 pub record Starts (line : List ℕ) (number r : ℕ) : Type 0 where
   pub inside : r ≤ length line
   pub rest : fieldsOf (drop r line) ≡ drop number (fieldsOf line)
-
-pub record Stands (line : List ℕ) (number from end : ℕ) : Type 0 where
-  pub order : from ≤ end
-  pub inside : end ≤ length line
-  pub octets : take (end - from) (drop from line) ≡ fieldAt line number
-
--- ---- the places of eight fields, by their ends
-
--- a field starts past the space at which the one before it ends
-abbrev pub startAt : List ℕ → ℕ → ℕ
-startAt ends zero = 0
-startAt ends (suc number) = getD ends number 0 + 1
-
--- the line has eight fields, and they end there
-pub record Eight (line ends : List ℕ) : Type 0 where
-  pub eight : length (fieldsOf line) ≡ 8
-  pub each : (number : ℕ) → number < 8 → Stands line number (startAt ends number) (getD ends number 0)
-
--- whether it has eight, and where they end
-abbrev pub PartsInEight : List ℕ → List ℕ → Bool → Type 0
-PartsInEight line ends true = Eight line ends
-PartsInEight line ends false = length (fieldsOf line) ≡ 8 → ⊥

@@ -1,4 +1,5 @@
-pub mod Fields
-pub mod Asking
-pub mod Reading
 pub mod Answers
+pub mod Asking
+pub mod Entries
+pub mod Fields
+pub mod Reading

@@ -1,14 +1,15 @@
 // What single fields say.
-use crate::places;
+use crate::entries;
 use ground::SignedMillimetres;
 use numerals::Signed32;
 use numerals::Signed64;
 use numerals::Unsigned32;
 use requests::Altitude;
-ghost use Prim.Native.Nat.{_<_};
+ghost use mathlib.Core.List.{List};
+ghost use Prim.Native.Nat.{ℕ};
 ghost use Rattle.numerals.specs.Numerals.{numeralOf};
 ghost use Rattle.numerals.specs.Widths.{AsSigned64};
-ghost use Rattle.asking.specs.Fields.{fieldAt, Eight};
+ghost use Rattle.asking.specs.Entries.{Holds};
 ghost use Rattle.asking.specs.Reading.{ReadsAltitude, ReadsAmount};
 
 pub enum AltitudeRead {
@@ -23,61 +24,34 @@ pub enum Amount {
     Unreadable,
 }
 
-// The coordinate in the field of that number.
-pub fn coordinate_at(line: &[u8], ends: &[usize; 8], number: usize) -> Signed64
-    requires { ⌜ Eight (now line) (now ends) ⌝ }
-    requires { ⌜ number < 8 ⌝ }
-    ensures { λ r. ⌜ AsSigned64 (numeralOf (fieldAt (now (line .entry)) number)) r ⌝ }
+// The coordinate in a field with that mark and that size.
+pub fn coordinate_of(mark: u8, size: u64) -> Signed64
+    ensures { λ r. ⌜ ((f : List ℕ) → Holds f mark size → AsSigned64 (numeralOf f) r) ⌝ }
 {
-    let place = places::place_of(ends, number);
-    let from = place.from;
-    let end = place.end;
-    numerals::signed_64(numerals::number_in(&line[from..end]))
+    numerals::signed_64(entries::numeral_of(mark, size))
 }
 
-// The altitude in the field of that number.
-pub fn altitude_at(line: &[u8], ends: &[usize; 8], number: usize) -> AltitudeRead
-    requires { ⌜ Eight (now line) (now ends) ⌝ }
-    requires { ⌜ number < 8 ⌝ }
-    ensures { λ r. ⌜ ReadsAltitude (fieldAt (now (line .entry)) number) r ⌝ }
+// The altitude in it.
+pub fn altitude_of(mark: u8, size: u64) -> AltitudeRead
+    ensures { λ r. ⌜ ((f : List ℕ) → Holds f mark size → ReadsAltitude f r) ⌝ }
 {
-    let place = places::place_of(ends, number);
-    let from = place.from;
-    let end = place.end;
-    altitude_in(&line[from..end])
-}
-
-// The amount in the field of that number.
-pub fn amount_at(line: &[u8], ends: &[usize; 8], number: usize) -> Amount
-    requires { ⌜ Eight (now line) (now ends) ⌝ }
-    requires { ⌜ number < 8 ⌝ }
-    ensures { λ r. ⌜ ReadsAmount (fieldAt (now (line .entry)) number) r ⌝ }
-{
-    let place = places::place_of(ends, number);
-    let from = place.from;
-    let end = place.end;
-    amount_in(&line[from..end])
-}
-
-fn altitude_in(field: &[u8]) -> AltitudeRead
-    ensures { λ r. ⌜ ReadsAltitude (now (field .entry)) r ⌝ }
-{
-    if check::same(field, b"-") {
+    if mark == entries::DASH {
         return AltitudeRead::Read(Altitude::NotAsked);
     }
-    let Signed32::Number(altitude) = numerals::signed_32(numerals::number_in(field)) else {
+    let Signed32::Number(altitude) = numerals::signed_32(entries::numeral_of(mark, size)) else {
         return AltitudeRead::Unreadable;
     };
     AltitudeRead::Read(Altitude::Asked(SignedMillimetres(altitude)))
 }
 
-fn amount_in(field: &[u8]) -> Amount
-    ensures { λ r. ⌜ ReadsAmount (now (field .entry)) r ⌝ }
+// The amount in it.
+pub fn amount_of(mark: u8, size: u64) -> Amount
+    ensures { λ r. ⌜ ((f : List ℕ) → Holds f mark size → ReadsAmount f r) ⌝ }
 {
-    if check::same(field, b"-") {
+    if mark == entries::DASH {
         return Amount::Absent;
     }
-    let Unsigned32::Number(amount) = numerals::unsigned_32(numerals::number_in(field)) else {
+    let Unsigned32::Number(amount) = numerals::unsigned_32(entries::numeral_of(mark, size)) else {
         return Amount::Unreadable;
     };
     Amount::Number(amount)

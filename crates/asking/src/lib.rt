@@ -1,7 +1,7 @@
 // A line of the chooser's input, the receiver's list or a request, and the text of a request's answer.
 mod amounts;
 mod answers;
-mod places;
+mod entries;
 mod request_lines;
 
 pub use amounts::Amount;

@@ -3,7 +3,7 @@
 use crate::amounts;
 use crate::amounts::AltitudeRead;
 use crate::amounts::Amount;
-use crate::places;
+use crate::entries;
 use ground::Confidence;
 use ground::Millidegrees;
 use ground::Millimetres;
@@ -13,8 +13,11 @@ use requests::AltitudeUncertainty;
 use requests::Horizontal;
 use requests::Request;
 ghost use mathlib.Core.Path.{_≡_};
+ghost use mathlib.Core.List.{List};
+ghost use Prim.Native.Nat.{ℕ};
 ghost use Rattle.asking.specs.Asking.{Asks};
-ghost use Rattle.asking.specs.Fields.{fieldAt, Eight};
+ghost use Rattle.asking.specs.Entries.{Eight};
+ghost use Rattle.asking.specs.Fields.{fieldAt};
 ghost use Rattle.asking.specs.Reading.{areaOf, noAreaOf, horizontalOf, ReadsHorizontal, ReadsUncertainty, ReadsConfidence};
 
 pub enum Asked {
@@ -41,34 +44,34 @@ pub enum ConfidenceRead {
 pub fn request_in(line: &[u8]) -> Asked
     ensures { λ r. ⌜ Asks (now (line .entry)) r ⌝ }
 {
-    let mut ends = [0; 8];
-    if places::part_in_eight(&mut ends, line) {
-        return request_of(line, &ends);
+    let mut marks = [0; 8];
+    let mut sizes = [0; 8];
+    if entries::read_eight(&mut marks, &mut sizes, line) {
+        return request_of(&marks, &sizes);
     }
     Asked::Unreadable
 }
 
-// The request that a line of eight fields says.
-fn request_of(line: &[u8], ends: &[usize; 8]) -> Asked
-    requires { ⌜ Eight (now line) (now ends) ⌝ }
-    ensures { λ r. ⌜ Asks (now (line .entry)) r ⌝ }
+// The request that a line of eight fields that hold that says.
+fn request_of(marks: &[u8; 8], sizes: &[u64; 8]) -> Asked
+    ensures { λ r. ⌜ ((line : List ℕ) → Eight line (now (marks .entry)) (now (sizes .entry)) → Asks line r) ⌝ }
 {
-    let Signed64::Number(latitude) = amounts::coordinate_at(line, ends, 0) else {
+    let Signed64::Number(latitude) = amounts::coordinate_of(marks[0], sizes[0]) else {
         return Asked::Unreadable;
     };
-    let Signed64::Number(longitude) = amounts::coordinate_at(line, ends, 1) else {
+    let Signed64::Number(longitude) = amounts::coordinate_of(marks[1], sizes[1]) else {
         return Asked::Unreadable;
     };
-    let AltitudeRead::Read(altitude) = amounts::altitude_at(line, ends, 2) else {
+    let AltitudeRead::Read(altitude) = amounts::altitude_of(marks[2], sizes[2]) else {
         return Asked::Unreadable;
     };
-    let HorizontalRead::Read(horizontal) = horizontal_in(line, ends) else {
+    let HorizontalRead::Read(horizontal) = horizontal_in(marks, sizes) else {
         return Asked::Unreadable;
     };
-    let UncertaintyRead::Read(altitude_uncertainty) = uncertainty_in(line, ends) else {
+    let UncertaintyRead::Read(altitude_uncertainty) = uncertainty_in(marks, sizes) else {
         return Asked::Unreadable;
     };
-    let ConfidenceRead::Read(confidence) = confidence_in(line, ends) else {
+    let ConfidenceRead::Read(confidence) = confidence_in(marks, sizes) else {
         return Asked::Unreadable;
     };
     Asked::Request(Request {
@@ -82,13 +85,12 @@ fn request_of(line: &[u8], ends: &[usize; 8]) -> Asked
 }
 
 // The horizontal uncertainty, in fields 3, 4 and 5.
-fn horizontal_in(line: &[u8], ends: &[usize; 8]) -> HorizontalRead
-    requires { ⌜ Eight (now line) (now ends) ⌝ }
-    ensures { λ r. ⌜ ReadsHorizontal (fieldAt (now (line .entry)) 3) (fieldAt (now (line .entry)) 4) (fieldAt (now (line .entry)) 5) r ⌝ }
+fn horizontal_in(marks: &[u8; 8], sizes: &[u64; 8]) -> HorizontalRead
+    ensures { λ r. ⌜ ((line : List ℕ) → Eight line (now (marks .entry)) (now (sizes .entry)) → ReadsHorizontal (fieldAt line 3) (fieldAt line 4) (fieldAt line 5) r) ⌝ }
 {
-    let semi_major = amounts::amount_at(line, ends, 3);
-    let semi_minor = amounts::amount_at(line, ends, 4);
-    let orientation = amounts::amount_at(line, ends, 5);
+    let semi_major = amounts::amount_of(marks[3], sizes[3]);
+    let semi_minor = amounts::amount_of(marks[4], sizes[4]);
+    let orientation = amounts::amount_of(marks[5], sizes[5]);
     horizontal_of(semi_major, semi_minor, orientation)
 }
 
@@ -142,11 +144,10 @@ fn no_area_of(semi_minor: Amount, orientation: Amount) -> HorizontalRead
 }
 
 // The altitude uncertainty, in field 6.
-fn uncertainty_in(line: &[u8], ends: &[usize; 8]) -> UncertaintyRead
-    requires { ⌜ Eight (now line) (now ends) ⌝ }
-    ensures { λ r. ⌜ ReadsUncertainty (fieldAt (now (line .entry)) 6) r ⌝ }
+fn uncertainty_in(marks: &[u8; 8], sizes: &[u64; 8]) -> UncertaintyRead
+    ensures { λ r. ⌜ ((line : List ℕ) → Eight line (now (marks .entry)) (now (sizes .entry)) → ReadsUncertainty (fieldAt line 6) r) ⌝ }
 {
-    match amounts::amount_at(line, ends, 6) {
+    match amounts::amount_of(marks[6], sizes[6]) {
         Amount::Number(uncertainty) => {
             UncertaintyRead::Read(AltitudeUncertainty::Asked(Millimetres(uncertainty)))
         }
@@ -156,11 +157,10 @@ fn uncertainty_in(line: &[u8], ends: &[usize; 8]) -> UncertaintyRead
 }
 
 // The confidence, in field 7.
-fn confidence_in(line: &[u8], ends: &[usize; 8]) -> ConfidenceRead
-    requires { ⌜ Eight (now line) (now ends) ⌝ }
-    ensures { λ r. ⌜ ReadsConfidence (fieldAt (now (line .entry)) 7) r ⌝ }
+fn confidence_in(marks: &[u8; 8], sizes: &[u64; 8]) -> ConfidenceRead
+    ensures { λ r. ⌜ ((line : List ℕ) → Eight line (now (marks .entry)) (now (sizes .entry)) → ReadsConfidence (fieldAt line 7) r) ⌝ }
 {
-    match amounts::amount_at(line, ends, 7) {
+    match amounts::amount_of(marks[7], sizes[7]) {
         Amount::Number(per_cent) => ConfidenceRead::Read(Confidence::PerCent(per_cent)),
         Amount::Absent => ConfidenceRead::Read(Confidence::Missing),
         Amount::Unreadable => ConfidenceRead::Unreadable,

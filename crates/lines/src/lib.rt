@@ -14,7 +14,7 @@ pub fn answer(line: &[u8]) -> Printed
         return Printed::Unreadable;
     }
     let from = end + 1;
-    let verb = names::place_among(&line[0..end], b"code report");
+    let verb = names::verb_of(&line[0..end]);
     named(verb, &line[from..])
 }
 
@@ -26,10 +26,7 @@ fn named(verb: usize, fields: &[u8]) -> Printed {
         return Printed::Unreadable;
     }
     let from = end + 1;
-    let place = names::place_among(
-        &fields[0..end],
-        b"latitude longitude uncertainty altitude-uncertainty altitude inner-radius offset included orientation bearing horizontal-speed vertical-speed uncertainty-speed confidence",
-    );
+    let place = names::place_of(&fields[0..end]);
     let rest = &fields[from..];
     match verb {
         0 => code_lines::coded(place, rest),

@@ -1,17 +1,20 @@
 -- What the definition of a numeral says of the octet at each place. Assumes nothing.
-use mathlib.Core.Path.{_≡_, refl, _∙_}
+use mathlib.Core.Path.{_≡_, refl, sym, ap, _∙_, subst}
 use mathlib.Core.Bool.{Bool, true, false}
-use mathlib.Core.List.{List, [], _∷_}
+use mathlib.Core.List.{List, [], _∷_, _++_, append-assoc, append-nil}
 use mathlib.Core.Logic.{⊎-elim}
-use Prim.Native.Nat.{ℕ, _+_, _*_, _-_, _≤_, _<_, min}
+use Prim.Native.Nat.{ℕ, suc, _+_, _*_, _-_, _≤_, _<_, min}
 use native.Mathlib.Nat.{min-eq-left, min-eq-right, le-of-lt}
-use native.Mathlib.Numerals.{add-one}
 use native.Mathlib.Omega.{arith}
-use lib.ListN.{length, drop, getD}
-use lib.Seq.{drop-cons, drop-length}
+use borrow.Author.Count.{below-more}
+use lib.Dec.{T}
+use lib.ListN.{length, take, drop, getD, length-drop}
+use lib.Seq.{drop-cons, drop-drop, take-add, take-all}
 use borrow.Author.Tests.{lt-ltb, le-ltb, eq-eqb, ne-eqb}
+use Rattle.ground.specs.declared.signs.Parts.{Parts}
+use Rattle.numerals.specs.declared.numerals.Digits.{Digits}
 use Rattle.numerals.specs.declared.numerals.Numeral.the-variants.{Number, Nothing}
-use Rattle.numerals.specs.Numerals.{numberFrom, digitsOf, numeralOf}
+use Rattle.numerals.specs.Numerals.{isDigit, numberFrom, digitsOf, numeralOf, Row, DigitsFrom}
 use Rattle.text.proofs.OutputLaws.{split}
 
 -- two numbers past the largest are read on alike
@@ -28,32 +31,103 @@ cut negative v s =
     (λ (h : 18446744073709551615 ≤ v). rw (min-eq-right h) (large negative 18446744073709551615 v s (omega arith) h))
     (split v 18446744073709551615)
 
-module _ (negative : Bool) (v : ℕ) (s : List ℕ) (i : ℕ) (h : i < length s) where
-  pub digit-at : 48 ≤ getD s i 0 → getD s i 0 ≤ 57 → numberFrom negative (min (10 * v + (getD s i 0 - 48)) 18446744073709551615) (drop (i + 1) s) ≡ numberFrom negative v (drop i s)
-  unfolding numberFrom
-  digit-at low high =
-      cut negative (10 * v + (getD s i 0 - 48)) (drop (i + 1) s)
-      ∙ rw (add-one i, drop-cons s i 0 h) (simp (le-ltb (getD s i 0) 48 low, lt-ltb (getD s i 0) 58 (omega arith)))
+-- ---- one octet
 
-  pub below-at : getD s i 0 < 48 → Nothing ≡ numberFrom negative v (drop i s)
-  unfolding numberFrom
-  below-at low = rw (drop-cons s i 0 h) (simp (lt-ltb (getD s i 0) 48 low))
+pub digit : {b : ℕ} → 48 ≤ b → b ≤ 57 → isDigit b ≡ true
+digit {b} low high = simp (le-ltb b 48 low, lt-ltb b 58 (omega arith))
 
-  pub above-at : 57 < getD s i 0 → Nothing ≡ numberFrom negative v (drop i s)
-  unfolding numberFrom
-  above-at high = rw (drop-cons s i 0 h) (simp (le-ltb (getD s i 0) 48 (omega arith), le-ltb (getD s i 0) 58 (omega arith)))
+pub below : {b : ℕ} → b < 48 → isDigit b ≡ false
+below {b} h = simp (lt-ltb b 48 h)
 
-  pub some-at : numberFrom negative 0 (drop i s) ≡ digitsOf negative (drop i s)
-  unfolding digitsOf
-  some-at = rw (drop-cons s i 0 h)
+pub above : {b : ℕ} → 57 < b → isDigit b ≡ false
+above {b} h = simp (le-ltb b 48 (omega arith), le-ltb b 58 (omega arith))
 
-pub end-at : (negative : Bool) (v : ℕ) (s : List ℕ) (i : ℕ) → i ≡ length s → v ≤ 18446744073709551615 → Number (record { negative = negative; size = v }) ≡ numberFrom negative v (drop i s)
+pub nothing-from : (negative : Bool) (v b : ℕ) (s : List ℕ) → isDigit b ≡ false → Nothing ≡ numberFrom negative v (b ∷ s)
 unfolding numberFrom
-end-at negative v s i e h = rw (e, drop-length s, min-eq-left h)
+nothing-from negative v b s e = rw e
 
-pub none-at : (negative : Bool) (s : List ℕ) (i : ℕ) → i ≡ length s → Nothing ≡ digitsOf negative (drop i s)
+one-digit : (negative : Bool) (v b : ℕ) (s : List ℕ) → isDigit b ≡ true → numberFrom negative v (b ∷ s) ≡ numberFrom negative (min (10 * v + (b - 48)) 18446744073709551615) s
+unfolding numberFrom
+one-digit negative v b s e = rw e (sym (cut negative (10 * v + (b - 48)) s))
+
+-- ---- digits in a row
+
+part-more : (s : List ℕ) (from i : ℕ) → from ≤ i → i < length s → take (i + 1 - from) (drop from s) ≡ take (i - from) (drop from s) ++ (getD s i 0 ∷ [])
+part-more s from i h l =
+    let a : i + 1 - from ≡ i - from + 1 = omega arith in
+    let b : from + (i - from) ≡ i = omega arith in
+    rw (a, take-add (i - from) 1 (drop from s), drop-drop (i - from) from s, b, drop-cons s i 0 l)
+
+pub row-none : {s : List ℕ} {from : ℕ} → from ≤ length s → Row s from 0 from
+row-none {s} {from} h =
+    let e : from - from ≡ 0 = omega arith in
+    record { after = omega arith; inside = h; each = λ k l m. absurd (omega arith); on = λ negative rest. rw e }
+
+pub row-more : {s : List ℕ} {from v i : ℕ} → Row s from v i → i < length s → isDigit (getD s i 0) ≡ true → Row s from (min (10 * v + (getD s i 0 - 48)) 18446744073709551615) (i + 1)
+row-more {s} {from} {v} {i} r h e =
+    record {
+      after = omega (arith, r .after);
+      inside = omega arith;
+      each = below-more _ _ (r .each) (λ _. e);
+      on = λ negative rest.
+          rw (part-more s from i (r .after) h, append-assoc)
+          (r .on negative (getD s i 0 ∷ rest) ∙ one-digit negative v (getD s i 0) rest e);
+    }
+
+-- a part of s with an octet in it
+some-part : (negative : Bool) (s : List ℕ) (from e : ℕ) → from < e → e ≤ length s → digitsOf negative (take (e - from) (drop from s)) ≡ numberFrom negative 0 (take (e - from) (drop from s))
 unfolding digitsOf
-none-at negative s i e = rw (e, drop-length s)
+some-part negative s from e h l =
+    let a : e - from ≡ suc (e - from - 1) = omega arith in
+    rw (a, drop-cons s from 0 (omega arith))
+
+pub no-part : (negative : Bool) (s : List ℕ) (from : ℕ) → digitsOf negative (take (from - from) (drop from s)) ≡ Nothing
+unfolding digitsOf
+no-part negative s from =
+    let a : from - from ≡ 0 = omega arith in
+    rw a
+
+module _ {s : List ℕ} {from v i : ℕ} (r : Row s from v i) (negative : Bool) where
+  -- a part that goes on after the row, with no digit
+  pub row-stopped : (e : ℕ) → i < e → e ≤ length s → isDigit (getD s i 0) ≡ false → digitsOf negative (take (e - from) (drop from s)) ≡ Nothing
+  row-stopped e h l d =
+      let a : e - from ≡ i - from + suc (e - i - 1) = omega (arith, r .after) in
+      let b : from + (i - from) ≡ i = omega (arith, r .after) in
+      some-part negative s from e (omega (arith, r .after)) l
+      ∙ rw (a, take-add (i - from) (suc (e - i - 1)) (drop from s), drop-drop (i - from) from s, b, drop-cons s i 0 (omega arith))
+      (r .on negative (getD s i 0 ∷ take (e - i - 1) (drop (suc i) s)) ∙ sym (nothing-from negative v (getD s i 0) (take (e - i - 1) (drop (suc i) s)) d))
+
+  -- the row alone
+  pub row-whole : from < i → v ≤ 18446744073709551615 → digitsOf negative (take (i - from) (drop from s)) ≡ Number (record { negative = negative; size = v })
+  unfolding numberFrom
+  row-whole h l =
+      some-part negative s from i h (r .inside)
+      ∙ ap (numberFrom negative 0) (sym (append-nil (take (i - from) (drop from s))))
+      ∙ r .on negative []
+      ∙ rw (min-eq-left l)
+
+-- a part up to the end
+pub all-part : (s : List ℕ) (from e : ℕ) → length s ≤ e → take (e - from) (drop from s) ≡ drop from s
+all-part s from e h = take-all (e - from) (drop from s) (rw length-drop (omega arith))
+
+-- there is one answer
+ends-before : {s : List ℕ} {from : ℕ} {q r : Digits} → DigitsFrom s from q → DigitsFrom s from r → q .end < r .end → ⊥
+ends-before {q = q} a b h = subst T (sym (b .row .each (q .end) h (a .row .after)) ∙ a .stops (omega (arith, b .row .inside))) tt
+
+size-of-row : {s : List ℕ} {from v i : ℕ} → v ≤ 18446744073709551615 → Row s from v i → numberFrom false 0 (take (i - from) (drop from s) ++ []) ≡ Number (record { negative = false; size = v })
+unfolding numberFrom
+size-of-row h r = r .on false [] ∙ rw (min-eq-left h)
+
+pub digits-one : {s : List ℕ} {from : ℕ} {q r : Digits} → q .size ≤ 18446744073709551615 → r .size ≤ 18446744073709551615 → DigitsFrom s from q → DigitsFrom s from r → q ≡ r
+digits-one {s} {from} {q} {r} l m a b =
+    let e : q .end ≡ r .end =
+    ⊎-elim (λ (h : q .end < r .end). absurd (ends-before a b h))
+    (λ (h : r .end ≤ q .end). ⊎-elim (λ (k : r .end < q .end). absurd (ends-before b a k)) (λ (k : q .end ≤ r .end). omega arith) (split (r .end) (q .end)))
+    (split (q .end) (r .end)) in
+    let n : Number (record { negative = false; size = q .size }) ≡ Number (record { negative = false; size = r .size }) =
+    sym (size-of-row l (a .row)) ∙ ap (λ (k : ℕ). numberFrom false 0 (take (k - from) (drop from s) ++ [])) e ∙ size-of-row m (b .row) in
+    let p : _≡_ {A = Parts} (record { negative = false; size = q .size }) (record { negative = false; size = r .size }) = cc in
+    λ i. record { size = p i .size; end = e i }
 
 -- by the first octet: none, a minus sign, another
 pub empty : (s : List ℕ) → length s ≡ 0 → Nothing ≡ numeralOf s

@@ -10,3 +10,7 @@ pub record FirstMark (mark : ℕ) (s : List ℕ) (from r : ℕ) : Type 0 where
   pub inside : r ≤ length s
   pub found : r < length s → getD s r 0 ≡ mark
   pub first : (k : ℕ) → k < r → from ≤ k → getD s k 0 ≡ mark → ⊥
+
+-- no mark stands from `from` up to `end`
+pub record NoMark (mark : ℕ) (s : List ℕ) (from end : ℕ) : Type 0 where
+  pub none : (k : ℕ) → k < end → from ≤ k → getD s k 0 ≡ mark → ⊥

@@ -1,8 +1,11 @@
 -- The number that a field writes. Assumes nothing.
+use mathlib.Core.Path.{_≡_}
 use mathlib.Core.Bool.{Bool, true, false, cond}
-use mathlib.Core.List.{List, [], _∷_}
-use Prim.Native.Nat.{ℕ, _+_, _*_, _-_, min}
+use mathlib.Core.List.{List, [], _∷_, _++_}
+use Prim.Native.Nat.{ℕ, _+_, _*_, _-_, _≤_, _<_, min}
+use lib.ListN.{length, getD, take, drop}
 use lib.Dec.{eqb, ltb}
+use Rattle.numerals.specs.declared.numerals.Digits.{Digits}
 use Rattle.numerals.specs.declared.numerals.Numeral.{Numeral}
 use Rattle.numerals.specs.declared.numerals.Numeral.the-variants.{Number, Nothing}
 
@@ -24,3 +27,17 @@ digitsOf negative (b ∷ s) = numberFrom negative 0 (b ∷ s)
 unfoldable pub numeralOf : List ℕ → Numeral
 numeralOf [] = Nothing
 numeralOf (b ∷ s) = cond (eqb b 45) (digitsOf true s) (digitsOf false (b ∷ s))
+
+-- ---- digits in a row
+
+-- all from `from` up to `end` are digits, and what comes after them is read on from the size
+pub record Row (s : List ℕ) (from size end : ℕ) : Type 0 where
+  pub after : from ≤ end
+  pub inside : end ≤ length s
+  pub each : (k : ℕ) → k < end → from ≤ k → isDigit (getD s k 0) ≡ true
+  pub on : (negative : Bool) (rest : List ℕ) → numberFrom negative 0 (take (end - from) (drop from s) ++ rest) ≡ numberFrom negative size rest
+
+-- no digit stands where they end
+pub record DigitsFrom (s : List ℕ) (from : ℕ) (r : Digits) : Type 0 where
+  pub row : Row s from (r .size) (r .end)
+  pub stops : r .end < length s → isDigit (getD s (r .end) 0) ≡ false

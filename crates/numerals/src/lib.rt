@@ -5,7 +5,9 @@ mod widths;
 
 pub use marks::field_end;
 pub use marks::line_end;
+pub use numerals::Digits;
 pub use numerals::Numeral;
+pub use numerals::digits_from;
 pub use numerals::number_in;
 pub use widths::Signed32;
 pub use widths::Signed64;

@@ -3,11 +3,17 @@ use ground::Parts;
 ghost use mathlib.Core.Path.{_≡_};
 ghost use Prim.Native.Nat.{_*_, _+_, _≤_, _<_, min};
 ghost use lib.ListN.{drop, length};
-ghost use Rattle.numerals.specs.Numerals.{digitsOf, numeralOf};
+ghost use Rattle.numerals.specs.Numerals.{digitsOf, numeralOf, DigitsFrom};
 
 pub enum Numeral {
     Number(Parts),
     Nothing,
+}
+
+// Digits in a row: the number that they write, at most the largest of 64 bits, and the place after them.
+pub struct Digits {
+    pub size: u64,
+    pub end: usize,
 }
 
 // The number that the whole field writes, or nothing. A size that 64 bits can't hold is their largest.
@@ -28,23 +34,36 @@ fn digits_in(field: &[u8], from: usize, negative: bool) -> Numeral
     requires { ⌜ from ≤ length (now field) ⌝ }
     ensures { λ r. ⌜ r ≡ digitsOf negative (drop from (now (field .entry))) ⌝ }
 {
-    if from == field.len() {
+    let digits = digits_from(field, from);
+    if digits.end < field.len() {
         return Numeral::Nothing;
     }
+    if digits.end == from {
+        return Numeral::Nothing;
+    }
+    let size = digits.size;
+    Numeral::Number(Parts { negative, size })
+}
+
+// The digits that stand in a row from `from` on, which may be none.
+pub fn digits_from(s: &[u8], from: usize) -> Digits
+    requires { ⌜ from ≤ length (now s) ⌝ }
+    ensures { λ r. ⌜ DigitsFrom (now (s .entry)) from r ⌝ }
+{
     let mut size: u64 = 0;
     let mut i = from;
-    while i < field.len() {
-        let b = field[i];
+    while i < s.len() {
+        let b = s[i];
         if b < 48 {
-            return Numeral::Nothing;
+            return Digits { size, end: i };
         }
         if 57 < b {
-            return Numeral::Nothing;
+            return Digits { size, end: i };
         }
         size = grown(size, b - 48);
         i += 1;
     }
-    Numeral::Number(Parts { negative, size })
+    Digits { size, end: i }
 }
 
 // One digit more after a number, as far as 64 bits can hold it.

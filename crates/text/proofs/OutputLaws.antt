@@ -15,7 +15,7 @@ use mir.Val.{SFits}
 use borrow.Author.Tests.{lt-ltb, le-ltb, ltb-true, ltb-false}
 use Rattle.ground.specs.Signs.{partsOf}
 use Rattle.ground.specs.declared.signs.Parts.{Parts}
-use Rattle.text.specs.Text.{decimalIn, decimal, pair, four, signedDecimal, Puts}
+use Rattle.text.specs.Text.{decimalIn, decimal, pair, four, eight, signedDecimal, Puts}
 
 -- text put after text is the two in a row
 pub sets-append : (l : List ℕ) (i : ℕ) (a b : List ℕ) → sets (sets l i a) (i + length a) b ≡ sets l i (a ++ b)
@@ -85,7 +85,7 @@ decimal-pairs {n} h =
     ∙ append-assoc (decimal (n / 10 / 10)) ((48 + n / 10 % 10) ∷ []) ((48 + n % 10) ∷ [])
     ∙ (λ i. decimal (a i) ++ ((48 + b i) ∷ (48 + c i) ∷ []))
 
--- three digits, four digits, and by four digits
+-- three digits, four digits, by four digits and by eight
 pub decimal-three : {n : ℕ} → 100 ≤ n → n < 1000 → decimal n ≡ (48 + n / 100) ∷ pair (n % 100)
 decimal-three {n} h l = decimal-pairs h ∙ ap (λ (t : List ℕ). t ++ pair (n % 100)) (decimal-small (omega arith))
 
@@ -101,6 +101,23 @@ decimal-fours {n} h =
     ∙ ap (λ (t : List ℕ). t ++ pair (n % 100)) (decimal-pairs (omega arith))
     ∙ append-assoc (decimal (n / 100 / 100)) (pair (n / 100 % 100)) (pair (n % 100))
     ∙ (λ i. decimal (a i) ++ (pair (b i) ++ pair (c i)))
+
+pub decimal-eights : {n : ℕ} → 100000000 ≤ n → decimal n ≡ decimal (n / 100000000) ++ eight (n % 100000000)
+decimal-eights {n} h =
+    let a : n / 10000 / 10000 ≡ n / 100000000 = omega arith in
+    let b : n / 10000 % 10000 ≡ n % 100000000 / 10000 = omega arith in
+    let c : n % 10000 ≡ n % 100000000 % 10000 = omega arith in
+    decimal-fours (omega arith)
+    ∙ ap (λ (t : List ℕ). t ++ four (n % 10000)) (decimal-fours (omega arith))
+    ∙ append-assoc (decimal (n / 10000 / 10000)) (four (n / 10000 % 10000)) (four (n % 10000))
+    ∙ (λ i. decimal (a i) ++ (four (b i) ++ four (c i)))
+
+-- the lengths of these
+pub fours-length : {n : ℕ} → 10000 ≤ n → length (decimal n) ≡ length (decimal (n / 10000)) + 4
+fours-length {n} h = ap length (decimal-fours h) ∙ length-append (decimal (n / 10000)) (four (n % 10000))
+
+pub eights-length : {n : ℕ} → 100000000 ≤ n → length (decimal n) ≡ length (decimal (n / 100000000)) + 8
+eights-length {n} h = ap length (decimal-eights h) ∙ length-append (decimal (n / 100000000)) (eight (n % 100000000))
 
 -- n has at most k digits where it is below 10 ^ k
 pub decimal-length : (k n : ℕ) → n < 10 ^ suc k → length (decimal n) ≤ suc k

@@ -17,12 +17,15 @@ decimalIn (suc most) n = cond (ltb n 10) ((48 + n) ∷ []) (decimalIn most (n / 
 unfoldable pub decimal : ℕ → List ℕ
 decimal n = decimalIn (suc n) n
 
--- two digits, and four
+-- two digits, four, and eight
 abbrev pub pair : ℕ → List ℕ
 pair n = (48 + n / 10) ∷ (48 + n % 10) ∷ []
 
 abbrev pub four : ℕ → List ℕ
 four n = pair (n / 100) ++ pair (n % 100)
+
+abbrev pub eight : ℕ → List ℕ
+eight n = four (n / 10000) ++ four (n % 10000)
 
 -- a whole number in decimal, with a minus sign where it is below zero
 unfoldable pub signedDecimal : ℤ → List ℕ

@@ -3,7 +3,7 @@ use ground::Whole;
 ghost use mathlib.Core.List.{[], _∷_};
 ghost use Prim.Native.Nat.{_+_, _≤_, _<_};
 ghost use lib.ListN.{length};
-ghost use Rattle.text.specs.Text.{Puts, decimal, pair, four, signedDecimal};
+ghost use Rattle.text.specs.Text.{Puts, decimal, pair, four, eight, signedDecimal};
 
 // Puts one octet at `at`, and answers the place after it.
 pub fn put_byte(out: &mut [u8], at: usize, b: u8) -> usize
@@ -14,15 +14,41 @@ pub fn put_byte(out: &mut [u8], at: usize, b: u8) -> usize
     at + 1
 }
 
-// Puts n in decimal, four digits a step, and answers the place after it.
+// Puts n in decimal, eight digits at a time, and answers the place after it.
 pub fn put_decimal(out: &mut [u8], at: usize, n: u64) -> usize
+    requires { ⌜ at + length (decimal n) ≤ length (now out) ⌝ }
+    ensures { λ r. ⌜ Puts (now (out .entry)) at (decimal n) (now (out .exit)) r ⌝ }
+{
+    if n < 100000000 {
+        return put_medium(out, at, n);
+    }
+    let next = put_upper(out, at, n / 100000000);
+    put_eight(out, next, n % 100000000)
+}
+
+// Puts a number of at most sixteen digits.
+fn put_upper(out: &mut [u8], at: usize, n: u64) -> usize
+    requires { ⌜ n < 10000000000000000 ⌝ }
+    requires { ⌜ at + length (decimal n) ≤ length (now out) ⌝ }
+    ensures { λ r. ⌜ Puts (now (out .entry)) at (decimal n) (now (out .exit)) r ⌝ }
+{
+    if n < 100000000 {
+        return put_medium(out, at, n);
+    }
+    let next = put_medium(out, at, n / 100000000);
+    put_eight(out, next, n % 100000000)
+}
+
+// Puts a number of at most eight digits.
+fn put_medium(out: &mut [u8], at: usize, n: u64) -> usize
+    requires { ⌜ n < 100000000 ⌝ }
     requires { ⌜ at + length (decimal n) ≤ length (now out) ⌝ }
     ensures { λ r. ⌜ Puts (now (out .entry)) at (decimal n) (now (out .exit)) r ⌝ }
 {
     if n < 10000 {
         return put_short(out, at, n);
     }
-    let next = put_decimal(out, at, n / 10000);
+    let next = put_short(out, at, n / 10000);
     put_four(out, next, n % 10000)
 }
 
@@ -43,6 +69,16 @@ fn put_short(out: &mut [u8], at: usize, n: u64) -> usize
         return put_pair(out, next, n % 100);
     }
     put_four(out, at, n)
+}
+
+// Puts eight digits.
+fn put_eight(out: &mut [u8], at: usize, n: u64) -> usize
+    requires { ⌜ n < 100000000 ⌝ }
+    requires { ⌜ at + 8 ≤ length (now out) ⌝ }
+    ensures { λ r. ⌜ Puts (now (out .entry)) at (eight n) (now (out .exit)) r ⌝ }
+{
+    let next = put_four(out, at, n / 10000);
+    put_four(out, next, n % 10000)
 }
 
 // Puts four digits.

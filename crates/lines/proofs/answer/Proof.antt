@@ -15,20 +15,17 @@ returns c = search needs
 add-from : tie.Need-add-from
 add-from c = search needs
 
-sub-place-among : tie.Need-sub-place-among
-sub-place-among c = search needs
+sub-verb-of : tie.Need-sub-verb-of
+sub-verb-of c = search needs
 
-part-place-among-start : tie.Need-part-place-among-start
-part-place-among-start c = search needs
+part-verb-of-start : tie.Need-part-verb-of-start
+part-verb-of-start c = search needs
 
-part-place-among-end : tie.Need-part-place-among-end
-part-place-among-end c = search needs
+part-verb-of-end : tie.Need-part-verb-of-end
+part-verb-of-end c = search needs
 
-slice-aggregate-place-among : tie.Need-slice-aggregate-place-among
-slice-aggregate-place-among c = search needs
-
-place-among-requires : tie.Need-place-among-requires
-place-among-requires c κs = search needs
+verb-of-requires : tie.Need-verb-of-requires
+verb-of-requires c κs = search needs
 
 sub-named : tie.Need-sub-named
 sub-named c = search needs
@@ -44,8 +41,8 @@ named-requires c κs = search needs
 
 returns-2 : tie.Need-returns-2
 returns-2 c =
-    let f = c .before .before .before .before .before .before .field-end in
-    let inside : f .result < length (c .before .before .before .before .before .before .before .before .args .line .now) = omega (arith, f .ensures .inside, c .before .before .before .before .before .if1 .left) in
+    let f = c .before .before .before .before .before .field-end in
+    let inside : f .result < length (c .before .before .before .before .before .before .before .args .line .now) = omega (arith, f .ensures .inside, c .before .before .before .before .if1 .left) in
     record { one-field = λ none. absurd (none (f .result) inside (f .ensures .found inside)) }
 
 pub answer-spec : {M : Type 1} → statement M
@@ -55,11 +52,10 @@ answer-spec =
     field-end-requires
     returns
     add-from
-    sub-place-among
-    part-place-among-start
-    part-place-among-end
-    slice-aggregate-place-among
-    place-among-requires
+    sub-verb-of
+    part-verb-of-start
+    part-verb-of-end
+    verb-of-requires
     sub-named
     part-named-start
     part-named-end

@@ -1,5 +1,6 @@
 -- Eight fields, each of which says its part; where one says nothing, no request is said.
 use mathlib.Core.Path.{subst}
+use native.Mathlib.Omega.{arith}
 use mir.Syntax.{w64}
 use mir.Facts.{toZ-ofZ}
 use Rattle.asking.specs.declared.amounts.AltitudeRead.{AltitudeRead}
@@ -13,8 +14,14 @@ use borrow.Author.Needs.{needs}
 use Rattle.asking.proofs.request_lines.request_of.Statement.{statement}
 use Rattle.asking.proofs.request_lines.request_of.Tie as tie
 
-coordinate-at-requires : tie.Need-coordinate-at-requires
-coordinate-at-requires c κs = search needs
+element-copy-out-coordinate-of : tie.Need-element-copy-out-coordinate-of
+element-copy-out-coordinate-of c = search needs
+
+element-copy-out-coordinate-of-2 : tie.Need-element-copy-out-coordinate-of-2
+element-copy-out-coordinate-of-2 c = search needs
+
+coordinate-of-requires : tie.Need-coordinate-of-requires
+coordinate-of-requires c κs = search needs
 
 enum-known-latitude : tie.Need-enum-known-latitude
 enum-known-latitude c = search needs
@@ -23,10 +30,16 @@ enum-told : tie.Need-enum-told
 enum-told c = search needs
 
 returns : tie.Need-returns
-returns c = λ q s. no-coordinate (fieldAt (c .before .before .before .before .args .line .now) 0) (c .before .before .coordinate-at .ensures) (c .enum-told .given .1) (s .latitudes)
+returns c = λ line e q s. no-coordinate (fieldAt line 0) (c .before .before .coordinate-of .ensures (fieldAt line 0) (e .each 0 (omega arith))) (c .enum-told .given .1) (s .latitudes)
 
-coordinate-at-requires-2 : tie.Need-coordinate-at-requires-2
-coordinate-at-requires-2 c κs = search needs
+element-copy-out-coordinate-of-3 : tie.Need-element-copy-out-coordinate-of-3
+element-copy-out-coordinate-of-3 c = search needs
+
+element-copy-out-coordinate-of-4 : tie.Need-element-copy-out-coordinate-of-4
+element-copy-out-coordinate-of-4 c = search needs
+
+coordinate-of-requires-2 : tie.Need-coordinate-of-requires-2
+coordinate-of-requires-2 c κs = search needs
 
 enum-known-longitude : tie.Need-enum-known-longitude
 enum-known-longitude c = search needs
@@ -35,10 +48,16 @@ enum-told-2 : tie.Need-enum-told-2
 enum-told-2 c = search needs
 
 returns-2 : tie.Need-returns-2
-returns-2 c = λ q s. no-coordinate (fieldAt (c .before .before .before .before .before .before .before .before .args .line .now) 1) (c .before .before .coordinate-at2 .ensures) (c .enum-told2 .given .1) (s .longitudes)
+returns-2 c = λ line e q s. no-coordinate (fieldAt line 1) (c .before .before .coordinate-of2 .ensures (fieldAt line 1) (e .each 1 (omega arith))) (c .enum-told2 .given .1) (s .longitudes)
 
-altitude-at-requires : tie.Need-altitude-at-requires
-altitude-at-requires c κs = search needs
+element-copy-out-altitude-of : tie.Need-element-copy-out-altitude-of
+element-copy-out-altitude-of c = search needs
+
+element-copy-out-altitude-of-2 : tie.Need-element-copy-out-altitude-of-2
+element-copy-out-altitude-of-2 c = search needs
+
+altitude-of-requires : tie.Need-altitude-of-requires
+altitude-of-requires c κs = search needs
 
 enum-known-altitude : tie.Need-enum-known-altitude
 enum-known-altitude c = search needs
@@ -47,7 +66,7 @@ enum-told-3 : tie.Need-enum-told-3
 enum-told-3 c = search needs
 
 returns-3 : tie.Need-returns-3
-returns-3 c = λ q s. subst (λ (a : AltitudeRead). ReadsAltitude (fieldAt (c .before .before .before .before .before .before .before .before .before .before .before .before .args .line .now) 2) a) (c .enum-told3 .given .1) (c .before .before .altitude-at .ensures) (q .altitude) (s .altitudes)
+returns-3 c = λ line e q s. subst (λ (a : AltitudeRead). ReadsAltitude (fieldAt line 2) a) (c .enum-told3 .given .1) (c .before .before .altitude-of .ensures (fieldAt line 2) (e .each 2 (omega arith))) (q .altitude) (s .altitudes)
 
 horizontal-in-requires : tie.Need-horizontal-in-requires
 horizontal-in-requires c κs = search needs
@@ -59,7 +78,7 @@ enum-told-4 : tie.Need-enum-told-4
 enum-told-4 c = search needs
 
 returns-4 : tie.Need-returns-4
-returns-4 c = λ q s. subst (λ (a : HorizontalRead). ReadsHorizontal (fieldAt (c .before .before .before .before .before .before .before .before .before .before .before .before .before .before .before .before .args .line .now) 3) (fieldAt (c .before .before .before .before .before .before .before .before .before .before .before .before .before .before .before .before .args .line .now) 4) (fieldAt (c .before .before .before .before .before .before .before .before .before .before .before .before .before .before .before .before .args .line .now) 5) a) (c .enum-told4 .given .1) (c .before .before .horizontal-in .ensures) (q .horizontal) (s .areas)
+returns-4 c = λ line e q s. subst (λ (a : HorizontalRead). ReadsHorizontal (fieldAt line 3) (fieldAt line 4) (fieldAt line 5) a) (c .enum-told4 .given .1) (c .before .before .horizontal-in .ensures line e) (q .horizontal) (s .areas)
 
 uncertainty-in-requires : tie.Need-uncertainty-in-requires
 uncertainty-in-requires c κs = search needs
@@ -71,7 +90,7 @@ enum-told-5 : tie.Need-enum-told-5
 enum-told-5 c = search needs
 
 returns-5 : tie.Need-returns-5
-returns-5 c = λ q s. subst (λ (a : UncertaintyRead). ReadsUncertainty (fieldAt (c .before .before .before .before .before .before .before .before .before .before .before .before .before .before .before .before .before .before .before .before .args .line .now) 6) a) (c .enum-told5 .given .1) (c .before .before .uncertainty-in .ensures) (q .«altitude_uncertainty») (s .heights)
+returns-5 c = λ line e q s. subst (λ (a : UncertaintyRead). ReadsUncertainty (fieldAt line 6) a) (c .enum-told5 .given .1) (c .before .before .uncertainty-in .ensures line e) (q .«altitude_uncertainty») (s .heights)
 
 confidence-in-requires : tie.Need-confidence-in-requires
 confidence-in-requires c κs = search needs
@@ -83,33 +102,39 @@ enum-told-6 : tie.Need-enum-told-6
 enum-told-6 c = search needs
 
 returns-6 : tie.Need-returns-6
-returns-6 c = λ q s. subst (λ (a : ConfidenceRead). ReadsConfidence (fieldAt (c .before .before .before .before .before .before .before .before .before .before .before .before .before .before .before .before .before .before .before .before .before .before .before .before .args .line .now) 7) a) (c .enum-told6 .given .1) (c .before .before .confidence-in .ensures) (q .confidence) (s .confidences)
+returns-6 c = λ line e q s. subst (λ (a : ConfidenceRead). ReadsConfidence (fieldAt line 7) a) (c .enum-told6 .given .1) (c .before .before .confidence-in .ensures line e) (q .confidence) (s .confidences)
 
 returns-7 : tie.Need-returns-7
-returns-7 c =
+returns-7 c = λ line e.
     record {
-      eight = c .before .before .before .before .before .before .before .before .before .before .before .before .before .before .before .before .before .before .before .before .before .before .before .before .before .pre .eight;
-      latitudes = rw (toZ-ofZ {w = w64} {z = c .before .before .before .before .before .before .before .before .before .before .before .before .before .before .before .before .before .before .before .before .before .latitude .given .0 .0} (search needs)) (coordinate-says (fieldAt (c .before .before .before .before .before .before .before .before .before .before .before .before .before .before .before .before .before .before .before .before .before .before .before .before .before .args .line .now) 0) (c .before .before .before .before .before .before .before .before .before .before .before .before .before .before .before .before .before .before .before .before .before .before .before .coordinate-at .ensures) (c .before .before .before .before .before .before .before .before .before .before .before .before .before .before .before .before .before .before .before .before .before .latitude .given .1));
-      longitudes = rw (toZ-ofZ {w = w64} {z = c .before .before .before .before .before .before .before .before .before .before .before .before .before .before .before .before .before .longitude .given .0 .0} (search needs)) (coordinate-says (fieldAt (c .before .before .before .before .before .before .before .before .before .before .before .before .before .before .before .before .before .before .before .before .before .before .before .before .before .args .line .now) 1) (c .before .before .before .before .before .before .before .before .before .before .before .before .before .before .before .before .before .before .before .coordinate-at2 .ensures) (c .before .before .before .before .before .before .before .before .before .before .before .before .before .before .before .before .before .longitude .given .1));
-      altitudes = subst (λ (a : AltitudeRead). ReadsAltitude (fieldAt (c .before .before .before .before .before .before .before .before .before .before .before .before .before .before .before .before .before .before .before .before .before .before .before .before .before .args .line .now) 2) a) (c .before .before .before .before .before .before .before .before .before .before .before .before .before .altitude .given .1) (c .before .before .before .before .before .before .before .before .before .before .before .before .before .before .before .altitude-at .ensures);
-      areas = subst (λ (a : HorizontalRead). ReadsHorizontal (fieldAt (c .before .before .before .before .before .before .before .before .before .before .before .before .before .before .before .before .before .before .before .before .before .before .before .before .before .args .line .now) 3) (fieldAt (c .before .before .before .before .before .before .before .before .before .before .before .before .before .before .before .before .before .before .before .before .before .before .before .before .before .args .line .now) 4) (fieldAt (c .before .before .before .before .before .before .before .before .before .before .before .before .before .before .before .before .before .before .before .before .before .before .before .before .before .args .line .now) 5) a) (c .before .before .before .before .before .before .before .before .before .horizontal .given .1) (c .before .before .before .before .before .before .before .before .before .before .before .horizontal-in .ensures);
-      heights = subst (λ (a : UncertaintyRead). ReadsUncertainty (fieldAt (c .before .before .before .before .before .before .before .before .before .before .before .before .before .before .before .before .before .before .before .before .before .before .before .before .before .args .line .now) 6) a) (c .before .before .before .before .before .altitude-uncertainty .given .1) (c .before .before .before .before .before .before .before .uncertainty-in .ensures);
-      confidences = subst (λ (a : ConfidenceRead). ReadsConfidence (fieldAt (c .before .before .before .before .before .before .before .before .before .before .before .before .before .before .before .before .before .before .before .before .before .before .before .before .before .args .line .now) 7) a) (c .before .confidence .given .1) (c .before .before .before .confidence-in .ensures);
+      eight = e .eight;
+      latitudes = rw (toZ-ofZ {w = w64} {z = c .before .before .before .before .before .before .before .before .before .before .before .before .before .before .before .before .before .before .before .before .before .before .before .before .before .latitude .given .0 .0} (search needs)) (coordinate-says (fieldAt line 0) (c .before .before .before .before .before .before .before .before .before .before .before .before .before .before .before .before .before .before .before .before .before .before .before .before .before .before .before .coordinate-of .ensures (fieldAt line 0) (e .each 0 (omega arith))) (c .before .before .before .before .before .before .before .before .before .before .before .before .before .before .before .before .before .before .before .before .before .before .before .before .before .latitude .given .1));
+      longitudes = rw (toZ-ofZ {w = w64} {z = c .before .before .before .before .before .before .before .before .before .before .before .before .before .before .before .before .before .before .before .longitude .given .0 .0} (search needs)) (coordinate-says (fieldAt line 1) (c .before .before .before .before .before .before .before .before .before .before .before .before .before .before .before .before .before .before .before .before .before .coordinate-of2 .ensures (fieldAt line 1) (e .each 1 (omega arith))) (c .before .before .before .before .before .before .before .before .before .before .before .before .before .before .before .before .before .before .before .longitude .given .1));
+      altitudes = subst (λ (a : AltitudeRead). ReadsAltitude (fieldAt line 2) a) (c .before .before .before .before .before .before .before .before .before .before .before .before .before .altitude .given .1) (c .before .before .before .before .before .before .before .before .before .before .before .before .before .before .before .altitude-of .ensures (fieldAt line 2) (e .each 2 (omega arith)));
+      areas = subst (λ (a : HorizontalRead). ReadsHorizontal (fieldAt line 3) (fieldAt line 4) (fieldAt line 5) a) (c .before .before .before .before .before .before .before .before .before .horizontal .given .1) (c .before .before .before .before .before .before .before .before .before .before .before .horizontal-in .ensures line e);
+      heights = subst (λ (a : UncertaintyRead). ReadsUncertainty (fieldAt line 6) a) (c .before .before .before .before .before .altitude-uncertainty .given .1) (c .before .before .before .before .before .before .before .uncertainty-in .ensures line e);
+      confidences = subst (λ (a : ConfidenceRead). ReadsConfidence (fieldAt line 7) a) (c .before .confidence .given .1) (c .before .before .before .confidence-in .ensures line e);
     }
 
 pub request-of-spec : {M : Type 1} → statement M
 request-of-spec =
     tie.close
     (tie.spec
-    coordinate-at-requires
+    element-copy-out-coordinate-of
+    element-copy-out-coordinate-of-2
+    coordinate-of-requires
     enum-known-latitude
     enum-told
     returns
-    coordinate-at-requires-2
+    element-copy-out-coordinate-of-3
+    element-copy-out-coordinate-of-4
+    coordinate-of-requires-2
     enum-known-longitude
     enum-told-2
     returns-2
-    altitude-at-requires
+    element-copy-out-altitude-of
+    element-copy-out-altitude-of-2
+    altitude-of-requires
     enum-known-altitude
     enum-told-3
     returns-3

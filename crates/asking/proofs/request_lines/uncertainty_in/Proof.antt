@@ -1,5 +1,6 @@
 -- By what the field holds.
 use mathlib.Core.Path.{subst}
+use native.Mathlib.Omega.{arith}
 use Rattle.asking.specs.declared.amounts.Amount.{Amount}
 use Rattle.asking.specs.Fields.{fieldAt}
 use Rattle.asking.specs.Reading.{ReadsAmount}
@@ -8,8 +9,14 @@ use borrow.Author.Needs.{needs}
 use Rattle.asking.proofs.request_lines.uncertainty_in.Statement.{statement}
 use Rattle.asking.proofs.request_lines.uncertainty_in.Tie as tie
 
-amount-at-requires : tie.Need-amount-at-requires
-amount-at-requires c κs = search needs
+element-copy-out-amount-of : tie.Need-element-copy-out-amount-of
+element-copy-out-amount-of c = search needs
+
+element-copy-out-amount-of-2 : tie.Need-element-copy-out-amount-of-2
+element-copy-out-amount-of-2 c = search needs
+
+amount-of-requires : tie.Need-amount-of-requires
+amount-of-requires c κs = search needs
 
 enum-known-uncertainty : tie.Need-enum-known-uncertainty
 enum-known-uncertainty c = search needs
@@ -21,19 +28,21 @@ enum-told-2 : tie.Need-enum-told-2
 enum-told-2 c = search needs
 
 returns : tie.Need-returns
-returns c = subst (λ (a : Amount). ReadsAmount (fieldAt (c .before .before .before .before .before .args .line .now) 6) a) (c .before .uncertainty .given .1) (c .before .before .before .amount-at .ensures)
+returns c = λ line e. subst (λ (a : Amount). ReadsAmount (fieldAt line 6) a) (c .before .uncertainty .given .1) (c .before .before .before .amount-of .ensures (fieldAt line 6) (e .each 6 (omega arith)))
 
 returns-2 : tie.Need-returns-2
-returns-2 c = subst (λ (a : Amount). ReadsAmount (fieldAt (c .before .before .before .before .args .line .now) 6) a) (c .enum-told .given .1) (c .before .before .amount-at .ensures)
+returns-2 c = λ line e. subst (λ (a : Amount). ReadsAmount (fieldAt line 6) a) (c .enum-told .given .1) (c .before .before .amount-of .ensures (fieldAt line 6) (e .each 6 (omega arith)))
 
 returns-3 : tie.Need-returns-3
-returns-3 c = no-uncertainty (subst (λ (a : Amount). ReadsAmount (fieldAt (c .before .before .before .before .args .line .now) 6) a) (c .enum-told2 .given .1) (c .before .before .amount-at .ensures))
+returns-3 c = λ line e. no-uncertainty (subst (λ (a : Amount). ReadsAmount (fieldAt line 6) a) (c .enum-told2 .given .1) (c .before .before .amount-of .ensures (fieldAt line 6) (e .each 6 (omega arith))))
 
 pub uncertainty-in-spec : {M : Type 1} → statement M
 uncertainty-in-spec =
     tie.close
     (tie.spec
-    amount-at-requires
+    element-copy-out-amount-of
+    element-copy-out-amount-of-2
+    amount-of-requires
     enum-known-uncertainty
     enum-told
     enum-told-2

@@ -1,0 +1,58 @@
+-- The loop has passed a row of digits, and grown is one digit more.
+use Prim.Native.Nat.{_-_, _≤_}
+use borrow.Author.Needs.{needs}
+use native.Mathlib.Omega.{arith}
+use lib.ListN.{length, getD}
+use Rattle.numerals.specs.Numerals.{Row}
+use Rattle.numerals.proofs.NumeralLaws.{digit, below, above, row-none, row-more}
+use Rattle.numerals.proofs.numerals.digits_from.Statement.{statement}
+use Rattle.numerals.proofs.numerals.digits_from.Tie as tie
+
+abbrev Inv-loop : tie.InvT-loop
+Inv-loop s from size₀ i₀ size i = (i ≤ length s) × Row s from size i
+
+abbrev μ-loop : tie.MeasureT-loop
+μ-loop s from size₀ i₀ size i = length s - i
+
+loop-holds : tie.Need-loop-holds Inv-loop μ-loop
+loop-holds c = (omega arith, row-none (omega arith))
+
+shared-slice-read-b : tie.Need-shared-slice-read-b Inv-loop μ-loop
+shared-slice-read-b c = search needs
+
+returns : tie.Need-returns Inv-loop μ-loop
+returns c = record { row = c .before .before .before .loop .inv .1; stops = λ h. below {b = getD (c .before .before .before .before .before .args .s .now) (c .before .before .before .loop .i) 0} (omega arith) }
+
+returns-2 : tie.Need-returns-2 Inv-loop μ-loop
+returns-2 c = record { row = c .before .before .before .before .loop .inv .1; stops = λ h. above {b = getD (c .before .before .before .before .before .before .args .s .now) (c .before .before .before .before .loop .i) 0} (omega arith) }
+
+grown-requires : tie.Need-grown-requires Inv-loop μ-loop
+grown-requires c κs = search needs
+
+add-i : tie.Need-add-i Inv-loop μ-loop
+add-i c = search needs
+
+loop-less : tie.Need-loop-less Inv-loop μ-loop
+loop-less c = search needs
+
+loop-again : tie.Need-loop-again Inv-loop μ-loop
+loop-again c = (omega arith, rw (c .grown .ensures) (row-more (c .before .before .before .before .before .loop .inv .1) (omega arith) (digit {b = getD (c .before .before .before .before .before .before .before .args .s .now) (c .before .before .before .before .before .loop .i) 0} (omega arith) (omega arith))))
+
+returns-3 : tie.Need-returns-3 Inv-loop μ-loop
+returns-3 c = record { row = c .before .loop .inv .1; stops = λ h. absurd (omega arith) }
+
+pub digits-from-spec : {M : Type 1} → statement M
+digits-from-spec =
+    tie.close
+    (tie.spec
+    Inv-loop
+    μ-loop
+    loop-holds
+    shared-slice-read-b
+    returns
+    returns-2
+    grown-requires
+    add-i
+    loop-less
+    loop-again
+    returns-3)
