@@ -7,7 +7,6 @@ ghost use Prim.Native.Nat.{_<_, _≤_};
 ghost use lib.ListN.{length};
 ghost use lib.Seq.{sets};
 ghost use Rattle.octets.specs.Codes.{bitOf};
-ghost use Rattle.layout.specs.Layout.{velocityTypeOf};
 ghost use Rattle.carrying.specs.Carrying.{Storable, Stored, firstNumber, front};
 
 // Stores the message.
@@ -16,8 +15,12 @@ pub fn put(out: &mut [u8], velocity: Velocity)
     ensures { λ _. ⌜ Stored velocity (now (out .entry)) (now (out .exit)) ⌝ }
 {
     let kind = velocity.kind;
-    let type_number = type_number(kind);
-    let first = first_word(type_number, velocity.vertical_speed.0, velocity.bearing.0);
+    let type_number = layout::velocity_type_number(kind);
+    let first = first_word(
+        type_number as u16,
+        velocity.vertical_speed.0,
+        velocity.bearing.0,
+    );
     let speed = velocity.horizontal_speed.0;
     let vertical = velocity.vertical_speed.1;
     let uncertainty = velocity.uncertainty.0;
@@ -86,16 +89,4 @@ fn put_seven(out: &mut [u8], first: u16, speed: u16, fifth: u8, sixth: u8, seven
     put_five(out, first, speed, fifth);
     out[5] = sixth;
     out[6] = seventh;
-}
-
-fn type_number(kind: VelocityKind) -> u16
-    ensures { λ r. ⌜ r ≡ velocityTypeOf kind ⌝ }
-{
-    match kind {
-        VelocityKind::Nothing => 0,
-        VelocityKind::Horizontal => 0,
-        VelocityKind::HorizontalVertical => 1,
-        VelocityKind::HorizontalUncertain => 2,
-        VelocityKind::HorizontalVerticalUncertain => 3,
-    }
 }

@@ -9,11 +9,11 @@ use Rattle.carrying.proofs.StoreLaws.{bearing-fits, own-room, nothing-s
 use Rattle.carrying.proofs.messages.put.Statement.{statement}
 use Rattle.carrying.proofs.messages.put.Tie as tie
 
-type-number-requires : tie.Need-type-number-requires
-type-number-requires c κs = search needs
+velocity-type-number-requires : tie.Need-velocity-type-number-requires
+velocity-type-number-requires c κs = search needs
 
 first-word-requires : tie.Need-first-word-requires
-first-word-requires c κs = (omega (arith, c .type-number .ensures, type-lt (c .before .before .args .velocity .kind)), bearing-fits _ _ (c .before .before .pre))
+first-word-requires c κs = (omega (arith, c .velocity-type-number .ensures, type-lt (c .before .before .args .velocity .kind)), bearing-fits _ _ (c .before .before .pre))
 
 enum-told : tie.Need-enum-told
 enum-told c = search needs
@@ -52,7 +52,7 @@ returns-2 : tie.Need-returns-2
 returns-2 c =
     let b = c .before .before .before .before .before .before in
     let a = b .before .before .before in
-    horizontal-stored _ (now (a .args .out)) _ (a .pre) _ _ (b .before .type-number .ensures) (b .first-word .ensures) (c .before .before .before .before .enum-told2 .given .1) (c .before .before .put-four .ensures)
+    horizontal-stored _ (now (a .args .out)) _ (a .pre) _ _ (b .before .velocity-type-number .ensures) (b .first-word .ensures) (c .before .before .before .before .enum-told2 .given .1) (c .before .before .put-four .ensures)
 
 same-length-2 : tie.Need-same-length-2
 same-length-2 c = search needs
@@ -61,7 +61,7 @@ returns-3 : tie.Need-returns-3
 returns-3 c =
     let b = c .before .before .before .before .before .before in
     let a = b .before .before .before in
-    vertical-stored _ (now (a .args .out)) _ (a .pre) _ _ (b .before .type-number .ensures) (b .first-word .ensures) (c .before .before .before .before .enum-told3 .given .1) (c .before .before .put-five .ensures)
+    vertical-stored _ (now (a .args .out)) _ (a .pre) _ _ (b .before .velocity-type-number .ensures) (b .first-word .ensures) (c .before .before .before .before .enum-told3 .given .1) (c .before .before .put-five .ensures)
 
 same-length-3 : tie.Need-same-length-3
 same-length-3 c = search needs
@@ -70,7 +70,7 @@ returns-4 : tie.Need-returns-4
 returns-4 c =
     let b = c .before .before .before .before .before .before in
     let a = b .before .before .before in
-    uncertain-stored _ (now (a .args .out)) _ (a .pre) _ _ (b .before .type-number .ensures) (b .first-word .ensures) (c .before .before .before .before .enum-told4 .given .1) (c .before .before .put-five2 .ensures)
+    uncertain-stored _ (now (a .args .out)) _ (a .pre) _ _ (b .before .velocity-type-number .ensures) (b .first-word .ensures) (c .before .before .before .before .enum-told4 .given .1) (c .before .before .put-five2 .ensures)
 
 same-length-4 : tie.Need-same-length-4
 same-length-4 c = search needs
@@ -79,13 +79,13 @@ returns-5 : tie.Need-returns-5
 returns-5 c =
     let b = c .before .before .before .before .before .before in
     let a = b .before .before .before in
-    all-stored _ (now (a .args .out)) _ (a .pre) _ _ (b .before .type-number .ensures) (b .first-word .ensures) (c .before .before .before .before .enum-told5 .given .1) (c .before .before .put-seven .ensures)
+    all-stored _ (now (a .args .out)) _ (a .pre) _ _ (b .before .velocity-type-number .ensures) (b .first-word .ensures) (c .before .before .before .before .enum-told5 .given .1) (c .before .before .put-seven .ensures)
 
 pub put-spec : {M : Type 1} → statement M
 put-spec =
     tie.close
     (tie.spec
-    type-number-requires
+    velocity-type-number-requires
     first-word-requires
     enum-told
     enum-told-2

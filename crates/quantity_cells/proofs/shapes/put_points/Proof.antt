@@ -8,7 +8,7 @@ use lib.Seq.{sets, length-sets}
 use denote.Ref.{now}
 use Rattle.quantity_cells.specs.Shapes.{pointCells}
 use Rattle.quantity_cells.proofs.CellLaws.{stored}
-use Rattle.quantity_cells.proofs.RunLaws.{point-more}
+use Rattle.quantity_cells.proofs.PointLaws.{point-more}
 use Rattle.quantity_cells.proofs.shapes.put_points.Statement.{statement}
 use Rattle.quantity_cells.proofs.shapes.put_points.Tie as tie
 

@@ -1,12 +1,12 @@
 -- `quantity_cells::put_shape_quantities` meets its contract: the cells before the points, then the points. Assumes nothing.
-use mathlib.Core.Path.{ap, _∙_}
+use mathlib.Core.Path.{refl, ap, _∙_}
 use mathlib.Core.List.{List, _++_}
 use lib.IntN.{ℤ}
 use lib.ListN.{length, drop}
 use lib.Seq.{sets}
 use denote.Ref.{now}
 use Rattle.quantity_cells.specs.Shapes.{singleCells, pointCells}
-use Rattle.quantity_cells.proofs.RunLaws.{put-after}
+use Rattle.cells.proofs.CopyLaws.{sets-after}
 use borrow.Author.Needs.{needs}
 use Rattle.quantity_cells.proofs.shapes.put_shape_quantities.Statement.{statement}
 use Rattle.quantity_cells.proofs.shapes.put_shape_quantities.Tie as tie
@@ -33,7 +33,7 @@ returns c =
     let points = pointCells (q .latitudes) (q .longitudes) 15 in
     c .before .put-points .ensures
     ∙ ap (λ (l : List ℤ). sets l 14 points) (c .before .before .before .before .put-quantities .ensures ∙ ap (λ (l : List ℤ). l ++ drop (length l) o) (c .before .before .before .before .before .before .before .before .before .single-cells .ensures))
-    ∙ put-after o (singleCells q) points (c .before .before .before .before .before .before .before .before .before .before .pre)
+    ∙ sets-after (singleCells q) points o refl refl (c .before .before .before .before .before .before .before .before .before .before .pre)
 
 pub put-shape-quantities-spec : {M : Type 1} → statement M
 put-shape-quantities-spec =
