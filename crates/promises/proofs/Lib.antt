@@ -1,1 +1,2 @@
+pub mod OneRequest
 pub mod OneAnswer

@@ -25,13 +25,18 @@ use Rattle.quantities.specs.Velocities.{velocityQuantityAt, VelocityQuantitiesO
 use Rattle.returns.proofs.PlaceLaws.{code-answer-one}
 use Rattle.returns.proofs.ShapeReturns as shapes
 use Rattle.returns.proofs.VelocityReturns as velocities
+use Rattle.requests.specs.declared.Request.{Request}
+use Rattle.requests.specs.Choice.{Chooses}
+use Rattle.requests.specs.Choice as receiver
+use Rattle.demands.proofs.OneAnswer as demands
 use Rattle.cells.specs.Answers.{answerOf, PutsCells}
 use Rattle.cells.proofs.PutLaws.{puts-answer-one, puts-array-one, of-array-one}
 use Rattle.code_cells.specs.Shapes.{shapeCells, rowsIn, valueIn, recordIn}
 use Rattle.code_cells.specs.Velocities.{velocityCells, velocityRowsIn, velocityValueIn, velocityRecordIn}
 use Rattle.quantity_cells.specs.Shapes.{quantityCells, quantitiesIn}
 use Rattle.quantity_cells.specs.Velocities.{velocityQuantityCells, velocityQuantitiesIn}
-use Rattle.desk.specs.Promises.{ReadsShapeInto, ReadsVelocityInto, WritesTold, WritesShapeFrom, WritesVelocityFrom, ReportsShapeFrom, ReportsVelocityFrom, CodeCellsAnswer, CodesShapeFrom, CodesVelocityFrom}
+use Rattle.desk.specs.Promises.{ReadsShapeInto, ReadsVelocityInto, WritesTold, WritesShapeFrom, WritesVelocityFrom, ReportsShapeFrom, ReportsVelocityFrom, CodeCellsAnswer, CodesShapeFrom, CodesVelocityFrom, ChoosesIn, no-request, chosen, ChoosesFrom}
+use Rattle.promises.proofs.OneRequest.{request-one}
 
 -- ---- what is handed back is put in one way
 
@@ -114,3 +119,16 @@ codes-velocity-one cells before after after′ n n′ a b =
     (λ p q.
     given-one (VelocityRecordOf x) (blankVelocity velocity.Nothing) velocityCells (velocities.coded-one x)
     (code-cells-one _ (velocityRows (x .kind)) 0 (velocityQuantityAt x) _ _ (p .promise .answer) (q .promise .answer)) (p .promise .velocity) (q .promise .velocity) (p .put) (q .put))
+
+-- ---- the choice
+
+chosen-one : (cells : List ℤ) (list : ℕ) (before after after′ : List ℕ) (n n′ : ℤ) → ChoosesIn cells list before after n → ChoosesIn cells list before after′ n′ → (n ≡ n′) × (after ≡ after′)
+chosen-one cells list before after after′ n n′ (no-request h a b) (no-request h′ a′ b′) = (a ∙ sym a′, b ∙ sym b′)
+chosen-one cells list before after after′ n n′ (no-request h a b) (chosen {q = q} w s c t) = absurd (h q s)
+chosen-one cells list before after after′ n n′ (chosen {q = q} w s c t) (no-request h a b) = absurd (h q s)
+chosen-one cells list before after after′ n n′ (chosen {q = q} w s c t) (chosen {q = q′} w′ s′ c′ t′) =
+    let d = subst (λ (r : Request). Chooses r (receiver.Listed list) before after′ w′) (request-one cells q′ q s′ s) c′ in
+    (told-one (demands.chooses-one q (receiver.Listed list) before after after′ w w′ c d) t t′, demands.chosen-buffer-one q (receiver.Listed list) before after after′ w w′ c d)
+
+pub chooses-one : (cells : List ℤ) (list : ℕ) (before after after′ : List ℕ) (n n′ : ℤ) → ChoosesFrom cells list before after n → ChoosesFrom cells list before after′ n′ → (n ≡ n′) × (after ≡ after′)
+chooses-one cells list before after after′ n n′ a b = of-array-one a b (chosen-one cells list before after after′ n n′)
