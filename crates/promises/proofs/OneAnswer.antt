@@ -35,8 +35,11 @@ use Rattle.code_cells.specs.Shapes.{shapeCells, rowsIn, valueIn, recordIn}
 use Rattle.code_cells.specs.Velocities.{velocityCells, velocityRowsIn, velocityValueIn, velocityRecordIn}
 use Rattle.quantity_cells.specs.Shapes.{quantityCells, quantitiesIn}
 use Rattle.quantity_cells.specs.Velocities.{velocityQuantityCells, velocityQuantitiesIn}
-use Rattle.desk.specs.Promises.{ReadsShapeInto, ReadsVelocityInto, WritesTold, WritesShapeFrom, WritesVelocityFrom, ReportsShapeFrom, ReportsVelocityFrom, CodeCellsAnswer, CodesShapeFrom, CodesVelocityFrom, ChoosesIn, no-request, chosen, ChoosesFrom}
+use Rattle.field_cells.specs.Fields.{toldOutcome}
+use Rattle.field_cells.specs.Fields as single
+use Rattle.desk.specs.Promises.{ReadsShapeInto, ReadsVelocityInto, WritesTold, WritesShapeFrom, WritesVelocityFrom, ReportsShapeFrom, ReportsVelocityFrom, CodeCellsAnswer, CodesShapeFrom, CodesVelocityFrom, ChoosesIn, no-request, chosen, ChoosesFrom, CodesOne, ReportsOne}
 use Rattle.promises.proofs.OneRequest.{request-one}
+use Rattle.promises.proofs.OneField.{codes-field-one, reports-field-one}
 
 -- ---- what is handed back is put in one way
 
@@ -132,3 +135,15 @@ chosen-one cells list before after after′ n n′ (chosen {q = q} w s c t) (cho
 
 pub chooses-one : (cells : List ℤ) (list : ℕ) (before after after′ : List ℕ) (n n′ : ℤ) → ChoosesFrom cells list before after n → ChoosesFrom cells list before after′ n′ → (n ≡ n′) × (after ≡ after′)
 chooses-one cells list before after after′ n n′ a b = of-array-one a b (chosen-one cells list before after after′ n n′)
+
+-- ---- one field's code and quantity
+
+pub codes-one : (field : ℕ) (quantity : ℤ) (before after after′ : List ℕ) (n n′ : ℤ) → CodesOne field quantity before after n → CodesOne field quantity before after′ n′ → (n ≡ n′) × (after ≡ after′)
+codes-one field quantity before after after′ n n′ a b =
+    let e = codes-field-one (a .promise) (b .promise) in
+    puts-one (ap toldOutcome e) (ap single.codeCells e) (a .put) (b .put)
+
+pub reports-one : (field : ℕ) (code : List ℕ) (before after after′ : List ℤ) (n n′ : ℤ) → ReportsOne field code before after n → ReportsOne field code before after′ n′ → (n ≡ n′) × (after ≡ after′)
+reports-one field code before after after′ n n′ a b =
+    let e = reports-field-one (a .promise) (b .promise) in
+    puts-one (ap toldOutcome e) (ap single.quantityCells e) (a .put) (b .put)

@@ -50,7 +50,7 @@ height-back : (z : ℤ) (a : AltitudeUncertainty) → SaysUncertainty z a → he
 height-back z (height.Asked R) s = ap heightIn (s .number)
 height-back z height.NotAsked s = ap heightIn s
 
-abbrev confidenceIn : ℤ → Confidence
+abbrev pub confidenceIn : ℤ → Confidence
 confidenceIn = byNumber confident.PerCent confident.Missing
 
 confidence-back : (z : ℤ) (a : Confidence) → SaysConfidence z a → confidenceIn z ≡ a
