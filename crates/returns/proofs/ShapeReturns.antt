@@ -97,7 +97,7 @@ whole q x a = record { all-latitudes = a .all-latitudes; all-longitudes = a .all
 
 -- ---- one answer
 
-reported-one : (x : Shape) (o : Outcome) (q r : ShapeQuantities) → Given o (QuantitiesOf x q) (q ≡ noShape) → Given o (QuantitiesOf x r) (r ≡ noShape) → q ≡ r
+pub reported-one : (x : Shape) (o : Outcome) (q r : ShapeQuantities) → Given o (QuantitiesOf x q) (q ≡ noShape) → Given o (QuantitiesOf x r) (r ≡ noShape) → q ≡ r
 reported-one x Done q r a b = same-quantities x q r a b
 reported-one x (Refused why) q r a b = a ∙ sym b
 
@@ -107,7 +107,7 @@ reports-shape-one x a b p q =
     let d = reported-one x (b .outcome) (a .quantities) (b .quantities) (subst (λ (o : Outcome). Given o (QuantitiesOf x (a .quantities)) (a .quantities ≡ noShape)) e (p .quantities)) (q .quantities) in
     λ j. record { outcome = e j; quantities = d j }
 
-coded-one : (q : ShapeQuantities) (o : Outcome) (x y : Shape) → Given o (RecordOf q x) (x ≡ blankShape shape.Nothing) → Given o (RecordOf q y) (y ≡ blankShape shape.Nothing) → x ≡ y
+pub coded-one : (q : ShapeQuantities) (o : Outcome) (x y : Shape) → Given o (RecordOf q x) (x ≡ blankShape shape.Nothing) → Given o (RecordOf q y) (y ≡ blankShape shape.Nothing) → x ≡ y
 coded-one q Done x y a b =
     same-shape x y (a .kinds ∙ sym (b .kinds)) (a .counts ∙ sym (b .counts)) (whole q x a) (whole q y b) (coded-same (quantityRows q) (quantityAt q) (codeAt x) (codeAt y) (a .each) (b .each))
 coded-one q (Refused why) x y a b = a ∙ sym b

@@ -57,7 +57,7 @@ same-quantities x q r a b =
 
 -- ---- one answer
 
-reported-one : (x : Velocity) (o : Outcome) (q r : VelocityQuantities) → Given o (VelocityQuantitiesOf x q) (q ≡ noVelocity) → Given o (VelocityQuantitiesOf x r) (r ≡ noVelocity) → q ≡ r
+pub reported-one : (x : Velocity) (o : Outcome) (q r : VelocityQuantities) → Given o (VelocityQuantitiesOf x q) (q ≡ noVelocity) → Given o (VelocityQuantitiesOf x r) (r ≡ noVelocity) → q ≡ r
 reported-one x Done q r a b = same-quantities x q r a b
 reported-one x (Refused why) q r a b = a ∙ sym b
 
@@ -68,7 +68,7 @@ reports-velocity-one x a b p q =
     let d = reported-one x (b .outcome) (a .quantities) (b .quantities) (subst (λ (o : Outcome). Given o (VelocityQuantitiesOf x (a .quantities)) (a .quantities ≡ noVelocity)) e (p .quantities)) (q .quantities) in
     λ j. record { outcome = e j; quantities = d j }
 
-coded-one : (q : VelocityQuantities) (o : Outcome) (x y : Velocity) → Given o (VelocityRecordOf q x) (x ≡ blankVelocity Nothing) → Given o (VelocityRecordOf q y) (y ≡ blankVelocity Nothing) → x ≡ y
+pub coded-one : (q : VelocityQuantities) (o : Outcome) (x y : Velocity) → Given o (VelocityRecordOf q x) (x ≡ blankVelocity Nothing) → Given o (VelocityRecordOf q y) (y ≡ blankVelocity Nothing) → x ≡ y
 coded-one q Done x y a b = same-velocity x y (a .kinds ∙ sym (b .kinds)) (coded-same (velocityRows (q .kind)) (velocityQuantityAt q) (velocityCodeAt x) (velocityCodeAt y) (a .each) (b .each))
 coded-one q (Refused why) x y a b = a ∙ sym b
 

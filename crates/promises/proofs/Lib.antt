@@ -1,0 +1,3 @@
+pub mod OneRequest
+pub mod OneField
+pub mod OneAnswer
