@@ -12,6 +12,9 @@ use Rattle.carrying.proofs.messages.put.Tie as tie
 velocity-type-number-requires : tie.Need-velocity-type-number-requires
 velocity-type-number-requires c κs = search needs
 
+cast-first-word : tie.Need-cast-first-word
+cast-first-word c = search needs
+
 first-word-requires : tie.Need-first-word-requires
 first-word-requires c κs = (omega (arith, c .velocity-type-number .ensures, type-lt (c .before .before .args .velocity .kind)), bearing-fits _ _ (c .before .before .pre))
 
@@ -86,6 +89,7 @@ put-spec =
     tie.close
     (tie.spec
     velocity-type-number-requires
+    cast-first-word
     first-word-requires
     enum-told
     enum-told-2
