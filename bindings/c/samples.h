@@ -19,7 +19,7 @@ enum { MOST_NAMED = 12 };
 struct sample {
     const char *name;
     size_t length;
-    uint8_t octets[20];
+    uint8_t octets[24]; // the longest sample and some more
     size_t codes_named;
     struct code codes[MOST_NAMED];
     size_t quantities_named;

@@ -94,6 +94,16 @@ fn messages_are_read() {
 }
 
 #[test]
+fn no_other_length_is_read() {
+    for (message, ..) in samples() {
+        let mut longer = message.clone();
+        longer.push(0);
+        assert_eq!(read_shape(&longer), Err(Refusal::WrongLength));
+        assert_eq!(read_shape(&message[..message.len() - 1]), Err(Refusal::WrongLength));
+    }
+}
+
+#[test]
 fn spare_bits_are_ignored() {
     let codes = ShapeCodes::Circle { place: CODES, uncertainty: UncertaintyCode(20) };
     assert_eq!(read_shape(&message(0x1F, &[0x94])), Ok(codes));
