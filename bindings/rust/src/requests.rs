@@ -6,6 +6,15 @@ use crate::shapes::{Axes, Place};
 
 pub(crate) const REQUEST: usize = 8;
 
+/// Where each quantity stands among the cells.
+mod ask_at {
+    pub const LATITUDE: usize = 0;
+    pub const ALTITUDE: usize = 2;
+    pub const AXES: usize = 3;
+    pub const ALTITUDE_UNCERTAINTY: usize = 6;
+    pub const CONFIDENCE: usize = 7;
+}
+
 /// A point to be said to a receiver, with what is asked of its uncertainty.
 #[derive(Clone, Copy, Debug, PartialEq, Eq, Hash)]
 pub struct Request {
@@ -26,15 +35,15 @@ pub enum Horizontal {
 impl Request {
     pub(crate) fn to_cells(self) -> [i64; REQUEST] {
         let mut cells = [MISSING; REQUEST];
-        self.place.put(&mut cells, 0);
-        put_quantity(&mut cells, 2, self.altitude);
+        self.place.put(&mut cells, ask_at::LATITUDE);
+        put_quantity(&mut cells, ask_at::ALTITUDE, self.altitude);
         match self.horizontal {
-            Some(Horizontal::Circle(radius)) => put_quantity(&mut cells, 3, radius),
-            Some(Horizontal::Ellipse(axes)) => axes.put(&mut cells, 3),
+            Some(Horizontal::Circle(radius)) => put_quantity(&mut cells, ask_at::AXES, radius),
+            Some(Horizontal::Ellipse(axes)) => axes.put(&mut cells, ask_at::AXES),
             None => {}
         }
-        put_quantity(&mut cells, 6, self.altitude_uncertainty);
-        put_quantity(&mut cells, 7, self.confidence);
+        put_quantity(&mut cells, ask_at::ALTITUDE_UNCERTAINTY, self.altitude_uncertainty);
+        put_quantity(&mut cells, ask_at::CONFIDENCE, self.confidence);
         cells
     }
 }

@@ -70,12 +70,26 @@ pub struct Axes {
 /// The codes of a shape, as its message has them.
 #[derive(Clone, Debug, PartialEq, Eq, Hash)]
 pub enum ShapeCodes {
-    Point { place: PlaceCodes },
-    Circle { place: PlaceCodes, uncertainty: UncertaintyCode },
-    Ellipse { place: PlaceCodes, axes: AxesCodes, confidence: ConfidenceCode },
+    Point {
+        place: PlaceCodes,
+    },
+    Circle {
+        place: PlaceCodes,
+        uncertainty: UncertaintyCode,
+    },
+    Ellipse {
+        place: PlaceCodes,
+        axes: AxesCodes,
+        confidence: ConfidenceCode,
+    },
     /// Three to fifteen points.
-    Polygon { points: Vec<PlaceCodes> },
-    Altitude { place: PlaceCodes, altitude: AltitudeCode },
+    Polygon {
+        points: Vec<PlaceCodes>,
+    },
+    Altitude {
+        place: PlaceCodes,
+        altitude: AltitudeCode,
+    },
     Ellipsoid {
         place: PlaceCodes,
         altitude: AltitudeCode,
@@ -96,12 +110,26 @@ pub enum ShapeCodes {
 /// The quantities of a shape.
 #[derive(Clone, Debug, PartialEq, Eq, Hash)]
 pub enum Shape {
-    Point { place: Place },
-    Circle { place: Place, uncertainty: Millimetres },
-    Ellipse { place: Place, axes: Axes, confidence: Option<Percent> },
+    Point {
+        place: Place,
+    },
+    Circle {
+        place: Place,
+        uncertainty: Millimetres,
+    },
+    Ellipse {
+        place: Place,
+        axes: Axes,
+        confidence: Option<Percent>,
+    },
     /// Three to fifteen points.
-    Polygon { points: Vec<Place> },
-    Altitude { place: Place, altitude: AltitudeMillimetres },
+    Polygon {
+        points: Vec<Place>,
+    },
+    Altitude {
+        place: Place,
+        altitude: AltitudeMillimetres,
+    },
     Ellipsoid {
         place: Place,
         altitude: AltitudeMillimetres,
@@ -182,17 +210,29 @@ impl ShapeCodes {
         }
     }
 
+    /// The one point of every shape but a polygon.
+    pub fn place(&self) -> Option<PlaceCodes> {
+        match self {
+            ShapeCodes::Polygon { .. } => None,
+            ShapeCodes::Point { place }
+            | ShapeCodes::Circle { place, .. }
+            | ShapeCodes::Ellipse { place, .. }
+            | ShapeCodes::Altitude { place, .. }
+            | ShapeCodes::Ellipsoid { place, .. }
+            | ShapeCodes::Arc { place, .. } => Some(*place),
+        }
+    }
+
     pub(crate) fn to_cells(&self) -> [u32; SHAPE_CODES] {
         let mut cells = [0; SHAPE_CODES];
         cells[TYPE] = self.type_number();
+        if let Some(place) = self.place() {
+            place.put(&mut cells, code_at::LATITUDE);
+        }
         match self {
-            ShapeCodes::Point { place } => place.put(&mut cells, code_at::LATITUDE),
-            ShapeCodes::Circle { place, uncertainty } => {
-                place.put(&mut cells, code_at::LATITUDE);
-                put(&mut cells, code_at::UNCERTAINTY, *uncertainty);
-            }
-            ShapeCodes::Ellipse { place, axes, confidence } => {
-                place.put(&mut cells, code_at::LATITUDE);
+            ShapeCodes::Point { .. } => {}
+            ShapeCodes::Circle { uncertainty, .. } => put(&mut cells, code_at::UNCERTAINTY, *uncertainty),
+            ShapeCodes::Ellipse { axes, confidence, .. } => {
                 axes.put(&mut cells);
                 put(&mut cells, code_at::CONFIDENCE, *confidence);
             }
@@ -202,19 +242,14 @@ impl ShapeCodes {
                     point.put(&mut cells, code_at::POINTS + 3 * i);
                 }
             }
-            ShapeCodes::Altitude { place, altitude } => {
-                place.put(&mut cells, code_at::LATITUDE);
-                put(&mut cells, code_at::ALTITUDE, *altitude);
-            }
-            ShapeCodes::Ellipsoid { place, altitude, axes, altitude_uncertainty, confidence } => {
-                place.put(&mut cells, code_at::LATITUDE);
+            ShapeCodes::Altitude { altitude, .. } => put(&mut cells, code_at::ALTITUDE, *altitude),
+            ShapeCodes::Ellipsoid { altitude, axes, altitude_uncertainty, confidence, .. } => {
                 put(&mut cells, code_at::ALTITUDE, *altitude);
                 axes.put(&mut cells);
                 put(&mut cells, code_at::ALTITUDE_UNCERTAINTY, *altitude_uncertainty);
                 put(&mut cells, code_at::CONFIDENCE, *confidence);
             }
-            ShapeCodes::Arc { place, inner_radius, uncertainty, offset, included, confidence } => {
-                place.put(&mut cells, code_at::LATITUDE);
+            ShapeCodes::Arc { inner_radius, uncertainty, offset, included, confidence, .. } => {
                 put(&mut cells, code_at::INNER_RADIUS, *inner_radius);
                 put(&mut cells, code_at::UNCERTAINTY, *uncertainty);
                 put(&mut cells, code_at::OFFSET, *offset);
@@ -272,18 +307,30 @@ impl Shape {
         }
     }
 
+    /// The one point of every shape but a polygon.
+    pub fn place(&self) -> Option<Place> {
+        match self {
+            Shape::Polygon { .. } => None,
+            Shape::Point { place }
+            | Shape::Circle { place, .. }
+            | Shape::Ellipse { place, .. }
+            | Shape::Altitude { place, .. }
+            | Shape::Ellipsoid { place, .. }
+            | Shape::Arc { place, .. } => Some(*place),
+        }
+    }
+
     pub(crate) fn to_cells(&self) -> [i64; SHAPE_QUANTITIES] {
         let mut cells = [0; SHAPE_QUANTITIES];
         cells[TYPE] = self.type_number();
         cells[quantity_at::CONFIDENCE] = MISSING;
+        if let Some(place) = self.place() {
+            place.put(&mut cells, quantity_at::LATITUDE);
+        }
         match self {
-            Shape::Point { place } => place.put(&mut cells, quantity_at::LATITUDE),
-            Shape::Circle { place, uncertainty } => {
-                place.put(&mut cells, quantity_at::LATITUDE);
-                put_quantity(&mut cells, quantity_at::UNCERTAINTY, *uncertainty);
-            }
-            Shape::Ellipse { place, axes, confidence } => {
-                place.put(&mut cells, quantity_at::LATITUDE);
+            Shape::Point { .. } => {}
+            Shape::Circle { uncertainty, .. } => put_quantity(&mut cells, quantity_at::UNCERTAINTY, *uncertainty),
+            Shape::Ellipse { axes, confidence, .. } => {
                 axes.put(&mut cells, quantity_at::AXES);
                 put_quantity(&mut cells, quantity_at::CONFIDENCE, *confidence);
             }
@@ -293,19 +340,14 @@ impl Shape {
                     point.put(&mut cells, quantity_at::POINTS + 2 * i);
                 }
             }
-            Shape::Altitude { place, altitude } => {
-                place.put(&mut cells, quantity_at::LATITUDE);
-                put_quantity(&mut cells, quantity_at::ALTITUDE, *altitude);
-            }
-            Shape::Ellipsoid { place, altitude, axes, altitude_uncertainty, confidence } => {
-                place.put(&mut cells, quantity_at::LATITUDE);
+            Shape::Altitude { altitude, .. } => put_quantity(&mut cells, quantity_at::ALTITUDE, *altitude),
+            Shape::Ellipsoid { altitude, axes, altitude_uncertainty, confidence, .. } => {
                 put_quantity(&mut cells, quantity_at::ALTITUDE, *altitude);
                 axes.put(&mut cells, quantity_at::AXES);
                 put_quantity(&mut cells, quantity_at::ALTITUDE_UNCERTAINTY, *altitude_uncertainty);
                 put_quantity(&mut cells, quantity_at::CONFIDENCE, *confidence);
             }
-            Shape::Arc { place, inner_radius, uncertainty, offset, included, confidence } => {
-                place.put(&mut cells, quantity_at::LATITUDE);
+            Shape::Arc { inner_radius, uncertainty, offset, included, confidence, .. } => {
                 put_quantity(&mut cells, quantity_at::INNER_RADIUS, *inner_radius);
                 put_quantity(&mut cells, quantity_at::UNCERTAINTY, *uncertainty);
                 put_quantity(&mut cells, quantity_at::OFFSET, *offset);
@@ -326,9 +368,7 @@ impl Shape {
             0 => Shape::Point { place },
             1 => Shape::Circle { place, uncertainty },
             3 => Shape::Ellipse { place, axes, confidence },
-            5 => Shape::Polygon {
-                points: (0..cells[COUNT] as usize).map(|i| Place::take(cells, quantity_at::POINTS + 2 * i)).collect(),
-            },
+            5 => Shape::Polygon { points: (0..cells[COUNT] as usize).map(|i| Place::take(cells, quantity_at::POINTS + 2 * i)).collect() },
             8 => Shape::Altitude { place, altitude },
             9 => Shape::Ellipsoid {
                 place,

@@ -7,6 +7,24 @@ pub(crate) const VELOCITY_CODES: usize = 7;
 pub(crate) const VELOCITY_QUANTITIES: usize = 6;
 const TYPE: usize = 0;
 
+/// Where each field stands among the cells of codes.
+mod code_at {
+    pub const BEARING: usize = 1;
+    pub const SPEED: usize = 2;
+    pub const VERTICAL: usize = 3;
+    pub const UNCERTAINTY: usize = 5;
+    pub const VERTICAL_UNCERTAINTY: usize = 6;
+}
+
+/// Where each quantity stands among the cells of quantities.
+mod quantity_at {
+    pub const BEARING: usize = 1;
+    pub const SPEED: usize = 2;
+    pub const VERTICAL: usize = 3;
+    pub const UNCERTAINTY: usize = 4;
+    pub const VERTICAL_UNCERTAINTY: usize = 5;
+}
+
 /// The codes of a horizontal velocity.
 #[derive(Clone, Copy, Debug, PartialEq, Eq, Hash)]
 pub struct CourseCodes {
@@ -24,9 +42,17 @@ pub struct Course {
 /// The codes of a velocity, as its message has them.
 #[derive(Clone, Copy, Debug, PartialEq, Eq, Hash)]
 pub enum VelocityCodes {
-    Horizontal { course: CourseCodes },
-    WithVertical { course: CourseCodes, vertical: VerticalSpeedCode },
-    WithUncertainty { course: CourseCodes, uncertainty: UncertaintySpeedCode },
+    Horizontal {
+        course: CourseCodes,
+    },
+    WithVertical {
+        course: CourseCodes,
+        vertical: VerticalSpeedCode,
+    },
+    WithUncertainty {
+        course: CourseCodes,
+        uncertainty: UncertaintySpeedCode,
+    },
     WithBoth {
         course: CourseCodes,
         vertical: VerticalSpeedCode,
@@ -38,9 +64,17 @@ pub enum VelocityCodes {
 /// The quantities of a velocity.
 #[derive(Clone, Copy, Debug, PartialEq, Eq, Hash)]
 pub enum Velocity {
-    Horizontal { course: Course },
-    WithVertical { course: Course, vertical: VerticalMetresPerHour },
-    WithUncertainty { course: Course, uncertainty: Option<MetresPerHour> },
+    Horizontal {
+        course: Course,
+    },
+    WithVertical {
+        course: Course,
+        vertical: VerticalMetresPerHour,
+    },
+    WithUncertainty {
+        course: Course,
+        uncertainty: Option<MetresPerHour>,
+    },
     WithBoth {
         course: Course,
         vertical: VerticalMetresPerHour,
@@ -55,35 +89,37 @@ impl VelocityCodes {
         let (number, course) = match self {
             VelocityCodes::Horizontal { course } => (0, course),
             VelocityCodes::WithVertical { course, vertical } => {
-                put(&mut cells, 3, vertical);
+                put(&mut cells, code_at::VERTICAL, vertical);
                 (1, course)
             }
             VelocityCodes::WithUncertainty { course, uncertainty } => {
-                put(&mut cells, 5, uncertainty);
+                put(&mut cells, code_at::UNCERTAINTY, uncertainty);
                 (2, course)
             }
             VelocityCodes::WithBoth { course, vertical, uncertainty, vertical_uncertainty } => {
-                put(&mut cells, 3, vertical);
-                put(&mut cells, 5, uncertainty);
-                put(&mut cells, 6, vertical_uncertainty);
+                put(&mut cells, code_at::VERTICAL, vertical);
+                put(&mut cells, code_at::UNCERTAINTY, uncertainty);
+                put(&mut cells, code_at::VERTICAL_UNCERTAINTY, vertical_uncertainty);
                 (3, course)
             }
         };
         cells[TYPE] = number;
-        put(&mut cells, 1, course.bearing);
-        put(&mut cells, 2, course.speed);
+        put(&mut cells, code_at::BEARING, course.bearing);
+        put(&mut cells, code_at::SPEED, course.speed);
         cells
     }
 
     pub(crate) fn from_cells(cells: &[u32; VELOCITY_CODES]) -> Self {
-        let course = CourseCodes { bearing: take(cells, 1), speed: take(cells, 2) };
-        let vertical = take(cells, 3);
-        let uncertainty = take(cells, 5);
+        let course = CourseCodes { bearing: take(cells, code_at::BEARING), speed: take(cells, code_at::SPEED) };
+        let vertical = take(cells, code_at::VERTICAL);
+        let uncertainty = take(cells, code_at::UNCERTAINTY);
         match cells[TYPE] {
             0 => VelocityCodes::Horizontal { course },
             1 => VelocityCodes::WithVertical { course, vertical },
             2 => VelocityCodes::WithUncertainty { course, uncertainty },
-            3 => VelocityCodes::WithBoth { course, vertical, uncertainty, vertical_uncertainty: take(cells, 6) },
+            3 => {
+                VelocityCodes::WithBoth { course, vertical, uncertainty, vertical_uncertainty: take(cells, code_at::VERTICAL_UNCERTAINTY) }
+            }
             other => unreachable!("the library gives no velocity of type {other}"),
         }
     }
@@ -95,35 +131,40 @@ impl Velocity {
         let (number, course) = match self {
             Velocity::Horizontal { course } => (0, course),
             Velocity::WithVertical { course, vertical } => {
-                put_quantity(&mut cells, 3, vertical);
+                put_quantity(&mut cells, quantity_at::VERTICAL, vertical);
                 (1, course)
             }
             Velocity::WithUncertainty { course, uncertainty } => {
-                put_quantity(&mut cells, 4, uncertainty);
+                put_quantity(&mut cells, quantity_at::UNCERTAINTY, uncertainty);
                 (2, course)
             }
             Velocity::WithBoth { course, vertical, uncertainty, vertical_uncertainty } => {
-                put_quantity(&mut cells, 3, vertical);
-                put_quantity(&mut cells, 4, uncertainty);
-                put_quantity(&mut cells, 5, vertical_uncertainty);
+                put_quantity(&mut cells, quantity_at::VERTICAL, vertical);
+                put_quantity(&mut cells, quantity_at::UNCERTAINTY, uncertainty);
+                put_quantity(&mut cells, quantity_at::VERTICAL_UNCERTAINTY, vertical_uncertainty);
                 (3, course)
             }
         };
         cells[TYPE] = number;
-        put_quantity(&mut cells, 1, course.bearing);
-        put_quantity(&mut cells, 2, course.speed);
+        put_quantity(&mut cells, quantity_at::BEARING, course.bearing);
+        put_quantity(&mut cells, quantity_at::SPEED, course.speed);
         cells
     }
 
     pub(crate) fn from_cells(cells: &[i64; VELOCITY_QUANTITIES]) -> Self {
-        let course = Course { bearing: take_quantity(cells, 1), speed: take_quantity(cells, 2) };
-        let vertical = take_quantity(cells, 3);
-        let uncertainty = take_quantity(cells, 4);
+        let course = Course { bearing: take_quantity(cells, quantity_at::BEARING), speed: take_quantity(cells, quantity_at::SPEED) };
+        let vertical = take_quantity(cells, quantity_at::VERTICAL);
+        let uncertainty = take_quantity(cells, quantity_at::UNCERTAINTY);
         match cells[TYPE] {
             0 => Velocity::Horizontal { course },
             1 => Velocity::WithVertical { course, vertical },
             2 => Velocity::WithUncertainty { course, uncertainty },
-            3 => Velocity::WithBoth { course, vertical, uncertainty, vertical_uncertainty: take_quantity(cells, 5) },
+            3 => Velocity::WithBoth {
+                course,
+                vertical,
+                uncertainty,
+                vertical_uncertainty: take_quantity(cells, quantity_at::VERTICAL_UNCERTAINTY),
+            },
             other => unreachable!("the library gives no velocity of type {other}"),
         }
     }

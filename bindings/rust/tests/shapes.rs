@@ -5,7 +5,8 @@ use gad::*;
 const PLACE: Place = Place { latitude: Nanodegrees(45_000_000_000), longitude: Nanodegrees(-90_000_000_000) };
 const CODES: PlaceCodes = place_codes(false, 4_194_304, -4_194_304);
 const AXES: Axes = Axes { semi_major: Millimetres(57_274), semi_minor: Millimetres(51_159), orientation: Millidegrees(30_000) };
-const AXES_CODES: AxesCodes = AxesCodes { semi_major: UncertaintyCode(20), semi_minor: UncertaintyCode(19), orientation: OrientationCode(30) };
+const AXES_CODES: AxesCodes =
+    AxesCodes { semi_major: UncertaintyCode(20), semi_minor: UncertaintyCode(19), orientation: OrientationCode(30) };
 
 const fn place_codes(south: bool, latitude: u32, longitude: i32) -> PlaceCodes {
     PlaceCodes { latitude: LatitudeCode { south, number: latitude }, longitude: LongitudeCode(longitude) }
@@ -42,6 +43,26 @@ fn arc() -> Shape {
     }
 }
 
+fn ellipsoid_codes() -> ShapeCodes {
+    ShapeCodes::Ellipsoid {
+        place: CODES,
+        altitude: AltitudeCode { depth: false, number: 1000 },
+        axes: AXES_CODES,
+        altitude_uncertainty: AltitudeUncertaintyCode(2),
+        confidence: ConfidenceCode(67),
+    }
+}
+
+fn ellipsoid() -> Shape {
+    Shape::Ellipsoid {
+        place: PLACE,
+        altitude: AltitudeMillimetres(1_000_000),
+        axes: AXES,
+        altitude_uncertainty: Millimetres(2_278),
+        confidence: Some(Percent(67)),
+    }
+}
+
 fn samples() -> Vec<(Vec<u8>, ShapeCodes, Shape)> {
     vec![
         (message(0x00, &[]), ShapeCodes::Point { place: CODES }, Shape::Point { place: PLACE }),
@@ -65,23 +86,7 @@ fn samples() -> Vec<(Vec<u8>, ShapeCodes, Shape)> {
             ShapeCodes::Altitude { place: CODES, altitude: AltitudeCode { depth: true, number: 1000 } },
             Shape::Altitude { place: PLACE, altitude: AltitudeMillimetres(-1_000_000) },
         ),
-        (
-            message(0x90, &[0x03, 0xE8, 0x14, 0x13, 0x1E, 0x02, 0x43]),
-            ShapeCodes::Ellipsoid {
-                place: CODES,
-                altitude: AltitudeCode { depth: false, number: 1000 },
-                axes: AXES_CODES,
-                altitude_uncertainty: AltitudeUncertaintyCode(2),
-                confidence: ConfidenceCode(67),
-            },
-            Shape::Ellipsoid {
-                place: PLACE,
-                altitude: AltitudeMillimetres(1_000_000),
-                axes: AXES,
-                altitude_uncertainty: Millimetres(2_278),
-                confidence: Some(Percent(67)),
-            },
-        ),
+        (message(0x90, &[0x03, 0xE8, 0x14, 0x13, 0x1E, 0x02, 0x43]), ellipsoid_codes(), ellipsoid()),
         (message(0xA0, &[0x00, 0x02, 0x14, 0x01, 0x00, 0x64]), arc_codes(), arc()),
     ]
 }
@@ -127,6 +132,15 @@ fn a_short_buffer_is_refused_and_kept() {
             assert_eq!(write_shape(&codes, &mut out[..room]), Err(Refusal::BufferTooShort));
             assert_eq!(out, [0xA5; LONGEST_MESSAGE]);
         }
+    }
+}
+
+#[test]
+fn every_shape_but_a_polygon_has_one_place() {
+    for (_, codes, shape) in samples() {
+        let polygon = matches!(shape, Shape::Polygon { .. });
+        assert_eq!(codes.place(), (!polygon).then_some(CODES));
+        assert_eq!(shape.place(), (!polygon).then_some(PLACE));
     }
 }
 

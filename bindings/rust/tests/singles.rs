@@ -12,9 +12,14 @@ fn north(number: u32) -> LatitudeCode {
 
 #[test]
 fn latitudes() {
-    for (quantity, expected) in
-        [(10_728, north(0)), (10_729, north(1)), (90_000_000_000, north(8_388_607)), (89_999_989_272, north(8_388_607)), (0, north(0)), (-1, south(0))]
-    {
+    for (quantity, expected) in [
+        (10_728, north(0)),
+        (10_729, north(1)),
+        (90_000_000_000, north(8_388_607)),
+        (89_999_989_272, north(8_388_607)),
+        (0, north(0)),
+        (-1, south(0)),
+    ] {
         assert_eq!(code::<LatitudeCode>(Nanodegrees(quantity)), Ok(expected));
     }
     assert_eq!(code::<LatitudeCode>(Nanodegrees(90_000_000_001)), Err(Refusal::OutOfRange));
