@@ -23,7 +23,7 @@ static void report_single(uint32_t field, uint32_t first, uint32_t second, size_
 // Every field number there can be, with the ends of all widths and ranges, in every room.
 void single_quantities(void)
 {
-    static const int64_t ends[] = {0, 1, 100, 101, 127, 180000, 254000, 360000, 990504, 32767000, 65535499, 327675000, INT32_MAX, 1806627477, UINT32_MAX,
+    static const int64_t ends[] = {0, 1, 100, 101, 127, 180000, 254000, 360000, 990484, 32767000, 65535499, 327675000, INT32_MAX, 1806627477, UINT32_MAX,
         NINETY_DEGREES, HALF_TURN, INT64_MAX};
     for (uint32_t field = 0; field < 256; field++)
         for (size_t i = 0; i < COUNT(ends); i++)

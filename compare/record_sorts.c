@@ -50,7 +50,7 @@ struct quantity_cell {
 };
 
 static const struct quantity_cell latitude = {-NINETY_DEGREES, NINETY_DEGREES, 10729}, longitude = {-HALF_TURN, HALF_TURN, 21458},
-                                  altitude = {INT32_MIN, INT32_MAX, 1000}, radius = {0, 1806627477, 1000}, height = {0, 990504, 1125},
+                                  altitude = {INT32_MIN, INT32_MAX, 1000}, radius = {0, 1806627477, 1000}, height = {0, 990484, 1125},
                                   orientation = {0, 179999, 1000}, confidence = {1, 100, 1}, speed_uncertainty = {0, 254000, 1000};
 
 static const struct quantity_cell *shape_quantity_cell(size_t cell)
