@@ -1,4 +1,4 @@
-// Nanoseconds a call of the proved library and of the second coder, side by side: race [REPEATS [SEED]].
+// Nanoseconds a call of the proved library and of the second coder, side by side: race [REPEATS [SEED [NAME]]]; a NAME leaves out the others.
 #define _POSIX_C_SOURCE 200809L // clock_gettime
 #include "chance.h"
 #include "coder.h"
@@ -203,6 +203,8 @@ int main(int count, char **argument)
     printf("%-30s %8s %8s %6s   %8s %8s %6s\n", "", "library", "second", "ratio", "library", "second", "ratio");
     for (size_t i = 0; i < COUNT(races); i++) {
         double kept[2], cleared[2];
+        if (count > 3 && strcmp(races[i].name, argument[3]) != 0)
+            continue;
         if (races[i].workers[0](1) != races[i].workers[1](1))
             printf("%s: the answers differ\n", races[i].name);
         run_race(&races[i], 0, repeats, kept);
