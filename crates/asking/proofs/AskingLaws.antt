@@ -28,12 +28,13 @@ use Rattle.requests.specs.declared.Horizontal.the-variants as horizontal
 use Rattle.requests.specs.declared.AltitudeUncertainty.{AltitudeUncertainty}
 use Rattle.requests.specs.declared.AltitudeUncertainty.the-variants as height
 use Rattle.asking.specs.declared.amounts.Amount.{Amount}
-use Rattle.asking.specs.declared.amounts.Amount.the-variants.{Number, Absent, Unreadable}
+use Rattle.asking.specs.declared.amounts.Amount.the-variants.{Unreadable}
 use Rattle.asking.specs.declared.request_lines.Asked.{Asked}
 use Rattle.asking.specs.declared.request_lines.Asked.the-variants as asked
 use Rattle.asking.specs.Fields.{fieldAt}
 use Rattle.asking.specs.Asking.{IsAbsent, SaysSigned, SaysUnsigned, SaysAltitude, SaysHorizontal, SaysUncertainty, SaysConfidence, Says, Asks, SaysList, ListIn}
-use Rattle.asking.specs.Reading.{ReadsAmount, ReadsHorizontal, areaOf, noAreaOf, horizontalOf}
+use Rattle.asking.specs.Reading.{ReadsAmount, ReadsHorizontal, horizontalOf}
+use Rattle.asking.proofs.AmountLaws as amounts
 
 -- ---- a field says one thing
 
@@ -81,34 +82,8 @@ module _ (f : List ℕ) {r : Signed64} (a : AsSigned64 (numeralOf f) r) where
 
 -- ---- the horizontal uncertainty
 
-module _ (f g h : List ℕ) where
-  -- no circle, no ellipse, and not none
-  refuted : ((R : ℕ) → SaysUnsigned f R → IsAbsent g → IsAbsent h → ⊥) → ((R S a : ℕ) → SaysUnsigned f R → SaysUnsigned g S → SaysUnsigned h a → ⊥) → (IsAbsent f → IsAbsent g → IsAbsent h → ⊥)
-      → (x : Horizontal) → SaysHorizontal f g h x → ⊥
-  refuted c e n (horizontal.Circle R) s = c (R .0) (s .0) (s .1) (s .2)
-  refuted c e n (horizontal.Ellipse R S a) s = e (R .0) (S .0) (a .0) (s .0) (s .1) (s .2)
-  refuted c e n horizontal.NotAsked s = n (s .0) (s .1) (s .2)
-
-  area-reads : {R : ℕ} (S a : Amount) → SaysUnsigned f R → ReadsAmount g S → ReadsAmount h a → ReadsHorizontal f g h (areaOf (record { 0 = R }) S a)
-  area-reads (Number S) (Number a) p q r = (p, q, r)
-  area-reads (Number S) Absent p q r = refuted (λ R u v w. unsigned-dash q v) (λ R S a u v w. unsigned-dash w r) (λ u v w. unsigned-dash p u)
-  area-reads (Number S) Unreadable p q r = refuted (λ R u v w. unsigned-dash q v) (λ R S a u v w. r .1 a w) (λ u v w. unsigned-dash p u)
-  area-reads Absent (Number a) p q r = refuted (λ R u v w. unsigned-dash r w) (λ R S a u v w. unsigned-dash v q) (λ u v w. unsigned-dash p u)
-  area-reads Absent Absent p q r = (p, q, r)
-  area-reads Absent Unreadable p q r = refuted (λ R u v w. r .0 w) (λ R S a u v w. unsigned-dash v q) (λ u v w. unsigned-dash p u)
-  area-reads Unreadable a p q r = refuted (λ R u v w. q .0 v) (λ R S a u v w. q .1 S v) (λ u v w. q .0 v)
-
-  no-area-reads : (S a : Amount) → IsAbsent f → ReadsAmount g S → ReadsAmount h a → ReadsHorizontal f g h (noAreaOf S a)
-  no-area-reads (Number S) a p q r = refuted (λ R u v w. unsigned-dash u p) (λ R S a u v w. unsigned-dash u p) (λ u v w. unsigned-dash q v)
-  no-area-reads Absent (Number a) p q r = refuted (λ R u v w. unsigned-dash u p) (λ R S a u v w. unsigned-dash u p) (λ u v w. unsigned-dash r w)
-  no-area-reads Absent Absent p q r = (p, q, r)
-  no-area-reads Absent Unreadable p q r = refuted (λ R u v w. unsigned-dash u p) (λ R S a u v w. unsigned-dash u p) (λ u v w. r .0 w)
-  no-area-reads Unreadable a p q r = refuted (λ R u v w. unsigned-dash u p) (λ R S a u v w. unsigned-dash u p) (λ u v w. q .0 v)
-
-  pub horizontal-reads : (R S a : Amount) → ReadsAmount f R → ReadsAmount g S → ReadsAmount h a → ReadsHorizontal f g h (horizontalOf R S a)
-  horizontal-reads (Number R) S a p q r = area-reads S a p q r
-  horizontal-reads Absent S a p q r = no-area-reads S a p q r
-  horizontal-reads Unreadable S a p q r = refuted (λ R u v w. p .1 R u) (λ R S a u v w. p .1 R u) (λ u v w. p .0 u)
+pub horizontal-reads : (f g h : List ℕ) (R S a : Amount) → ReadsAmount f R → ReadsAmount g S → ReadsAmount h a → ReadsHorizontal f g h (horizontalOf R S a)
+horizontal-reads = amounts.horizontal-reads IsAbsent SaysUnsigned (λ f n. unsigned-dash)
 
 -- ---- the altitude, its uncertainty, the confidence
 
@@ -117,12 +92,10 @@ no-altitude f d n (level.Asked a) s = n (a .0) (s .means) (s .fits)
 no-altitude f d n level.NotAsked s = d s
 
 pub no-uncertainty : {f : List ℕ} → ReadsAmount f Unreadable → (a : AltitudeUncertainty) → SaysUncertainty f a → ⊥
-no-uncertainty n (height.Asked R) s = n .1 (R .0) s
-no-uncertainty n height.NotAsked s = n .0 s
+no-uncertainty = amounts.no-uncertainty IsAbsent SaysUnsigned
 
 pub no-confidence : {f : List ℕ} → ReadsAmount f Unreadable → (a : Confidence) → SaysConfidence f a → ⊥
-no-confidence n (confident.PerCent m) s = n .1 m s
-no-confidence n confident.Missing s = n .0 s
+no-confidence = amounts.no-confidence IsAbsent SaysUnsigned
 
 -- ---- the list
 

@@ -1,3 +1,4 @@
 pub mod FieldLaws
+pub mod AmountLaws
 pub mod AskingLaws
 pub mod AnswerLaws

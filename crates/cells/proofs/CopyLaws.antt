@@ -1,12 +1,12 @@
--- A loop that copies a slice into the first of another, over any element: a turn, and the end. Assumes nothing.
-use mathlib.Core.Path.{_≡_, ap, _∙_, subst}
-use mathlib.Core.List.{List, _++_}
+-- Cells put into an array, over any element: by a loop that copies a slice into the first, and after cells that are there. Assumes nothing.
+use mathlib.Core.Path.{_≡_, refl, sym, ap, _∙_, subst}
+use mathlib.Core.List.{List, [], _∷_, _++_}
 use Prim.Native.Nat.{ℕ, suc, _+_, _≤_, _<_}
-use native.Mathlib.Nat.{zero-add}
+use native.Mathlib.Nat.{zero-add, add-zero, add-suc, suc-add}
 use native.Mathlib.Numerals.{add-one}
 use native.Mathlib.Omega.{arith}
-use lib.ListN.{length, drop, getD, set}
-use lib.Seq.{paste, paste-suc, length-paste, take-all}
+use lib.ListN.{length, drop, getD, set, length-append, length-drop}
+use lib.Seq.{paste, paste-suc, length-paste, take-all, take-at, drop-append-add, drop-drop, sets, sets-eq}
 
 -- the first i are copied
 pub record Copied {A : Type 0} (before src after : List A) (i : ℕ) : Type 0 where
@@ -31,3 +31,28 @@ module _ {A : Type 0} {before src after : List A} {i : ℕ} (room : length src �
       let w = h .within in
       let e : i ≡ length src = omega arith in
       rw (h .content, e, take-all (length src) src (omega arith), zero-add (length src))
+
+-- one cell, and two, stored into the first
+pub first-stored : {A : Type 0} (s : List A) (a : A) → 1 ≤ length s → set s 0 a ≡ (a ∷ []) ++ drop 1 s
+first-stored [] a h = absurd (omega arith)
+first-stored (b ∷ s) a h = refl
+
+pub two-stored : {A : Type 0} (s : List A) (a b : A) → 2 ≤ length s → set (set s 0 a) 1 b ≡ (a ∷ b ∷ []) ++ drop 2 s
+two-stored [] a b h = absurd (omega arith)
+two-stored (x ∷ []) a b h = absurd (omega arith)
+two-stored (x ∷ y ∷ s) a b h = refl
+
+module _ {A : Type 0} where
+  -- cells put after cells are the two in a row
+  pub sets-append : (l : List A) (i : ℕ) (a b : List A) → sets (sets l i a) (i + length a) b ≡ sets l i (a ++ b)
+  sets-append l i [] b = rw add-zero
+  sets-append l i (x ∷ a) b = rw (add-suc, ← suc-add) (sets-append _ (suc i) a b)
+
+  -- cells put after the n first
+  pub sets-after : (a b l : List A) {n m : ℕ} → length a ≡ n → n + length b ≡ m → m ≤ length l → sets (a ++ drop n l) n b ≡ (a ++ b) ++ drop m l
+  sets-after a b l {n} {m} e f h =
+      let k : length (a ++ drop n l) ≡ length l = length-append a (drop n l) ∙ omega (arith, length-drop n l) in
+      sets-eq b (a ++ drop n l) n (omega arith)
+      ∙ ap (λ (t : List A). t ++ b ++ drop (n + length b) (a ++ drop n l)) (take-at a (drop n l) n e)
+      ∙ ap (λ (t : List A). a ++ b ++ t)
+      (ap (λ (j : ℕ). drop (j + length b) (a ++ drop n l)) (sym e) ∙ drop-append-add a (drop n l) (length b) ∙ drop-drop (length b) n l ∙ ap (λ (j : ℕ). drop j l) f)

@@ -1,2 +1,3 @@
 pub mod CopyLaws
 pub mod NumberLaws
+pub mod PutLaws

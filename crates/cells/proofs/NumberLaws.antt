@@ -99,7 +99,7 @@ module _ (z : ℤ) (f : SFits w32 z) (e : ltZ (toZ w32 (ofZ w32 z)) (pos 0) ≡ 
   pub minus-casts : (T (nonNeg (toZ w32 (4294967295 - ofZ w32 z)))) × Fits w32 (natAbs (toZ w32 (4294967295 - ofZ w32 z)))
   minus-casts = rw (minus .0) (tt, record { fits = omega arith })
 
-  pub minus-below : natAbs (toZ w32 (4294967295 - ofZ w32 z)) ≤ 4294967295
+  pub minus-below : natAbs (toZ w32 (4294967295 - ofZ w32 z)) < 2147483648
   minus-below = rw (minus .0) (omega arith)
 
   pub minus-bits : 4294967295 - natAbs (toZ w32 (4294967295 - ofZ w32 z)) ≡ bitsOf z
@@ -180,6 +180,15 @@ module _ (z : ℤ) (f : SFits w64 z) where
 
     pub signed-is : toZ w32 (ofZ w32 (toZ w64 (ofZ w64 z))) ≡ signedOf z
     signed-is = toZ-ofZ signed-fits ∙ toZ-ofZ f ∙ simp (lt-ltb (mag z) 2147483648 small)
+
+-- ---- a cell that was read is what it was
+
+pub cell-read : {z : ℤ} → mag z < 9223372036854775808 → toZ w64 (ofZ w64 z) ≡ z
+cell-read h = toZ-ofZ {w = w64} (record { sfits = h })
+
+-- what was made of it
+pub cell-as : {A : Type 0} {r : A} (f : ℤ → A) (z : ℤ) → mag z < 9223372036854775808 → r ≡ f (toZ w64 (ofZ w64 z)) → r ≡ f z
+cell-as f z h e = e ∙ ap f (cell-read h)
 
 -- ---- a refusal's number is a small one
 

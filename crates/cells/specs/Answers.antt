@@ -9,7 +9,7 @@ use lib.ListN.{length, drop}
 use Rattle.ground.specs.Answers.{numberOf, handed}
 use Rattle.ground.specs.declared.refusals.Outcome.{Outcome}
 use Rattle.ground.specs.declared.refusals.Outcome.the-variants.{Done, Refused}
-use Rattle.ground.specs.declared.refusals.Refusal.the-variants.{BufferTooShort}
+use Rattle.ground.specs.declared.refusals.Refusal.the-variants.{OutOfRange, BufferTooShort}
 
 -- how many cells or octets are put, or minus the number of the refusal (`negsuc k` is -(k + 1))
 abbrev pub answerOf : Outcome → ℕ → ℤ
@@ -20,6 +20,11 @@ answerOf (Refused why) put = negsuc (numberOf why - 1)
 abbrev pub givenRoom : Outcome → ℕ → ℕ → Outcome
 givenRoom Done wanted room = cond (ltb room wanted) (Refused BufferTooShort) Done
 givenRoom (Refused why) wanted room = Refused why
+
+-- 7 where nothing comes before it
+abbrev pub elseOutOfRange : Outcome → Outcome
+elseOutOfRange Done = Refused OutOfRange
+elseOutOfRange (Refused why) = Refused why
 
 -- An answer's cells are put into the first of an array, and its others stay; a refusal, 10 among them, changes none.
 pub record PutsCells {A : Type 0} (outcome : Outcome) (cells before after : List A) (n : ℤ) : Type 0 where

@@ -4,8 +4,8 @@ use ground::Parts;
 use ground::Refusal;
 use ground::Whole;
 ghost use mathlib.Core.Path.{_≡_};
-ghost use Prim.Native.Nat.{_<_};
-ghost use Rattle.cells.specs.Answers.{answerOf, givenRoom};
+ghost use Prim.Native.Nat.{_<_, _^_};
+ghost use Rattle.cells.specs.Answers.{answerOf, givenRoom, elseOutOfRange};
 
 // 10 where what is done has no room.
 pub fn given_room(outcome: Outcome, wanted: usize, room: usize) -> Outcome
@@ -22,9 +22,19 @@ pub fn given_room(outcome: Outcome, wanted: usize, room: usize) -> Outcome
     }
 }
 
+// 7 for a number outside its field or its width, after what comes before it.
+pub fn else_out_of_range(outcome: Outcome) -> Outcome
+    ensures { λ r. ⌜ r ≡ elseOutOfRange outcome ⌝ }
+{
+    match outcome {
+        Outcome::Done => Outcome::Refused(Refusal::OutOfRange),
+        Outcome::Refused(why) => Outcome::Refused(why),
+    }
+}
+
 // The number that is handed back.
 pub fn answer(outcome: Outcome, put: usize) -> Whole
-    requires { ⌜ put < 256 ⌝ }
+    requires { ⌜ put < 2 ^ 63 ⌝ }
     ensures { λ r. ⌜ r .0 ≡ answerOf outcome put ⌝ }
 {
     match outcome {

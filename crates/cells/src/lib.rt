@@ -5,6 +5,7 @@ mod codes;
 mod quantities;
 
 pub use answers::answer;
+pub use answers::else_out_of_range;
 pub use answers::given_room;
 pub use codes::bit;
 pub use codes::capped_octet;

@@ -1,5 +1,4 @@
 -- A SHAPE'S CODES IN 61 CELLS. Assumes nothing.
-use mathlib.Core.Path.{_≡_}
 use mathlib.Core.List.{List, [], _∷_, _++_}
 use Prim.Native.Nat.{ℕ, zero, suc, _+_, _*_, _≤_, _<_}
 use lib.ListN.{getD, take}
@@ -147,12 +146,21 @@ heldShape cells = record {
   longitudes = upto 15 (heldLongitude cells);
 }
 
--- the numbers that their codes' types can't hold outside their fields are within them
+-- ---- the numbers that their codes' types hold
+
+-- the largest of each code from D to the confidence, cells 5 to 15
+abbrev pub largestNumbers : List ℕ
+largestNumbers = 1 ∷ 65535 ∷ 255 ∷ 255 ∷ 255 ∷ 255 ∷ 255 ∷ 65535 ∷ 255 ∷ 255 ∷ 255 ∷ []
+
+abbrev pub WholeFields : List ℕ → Type 0
+WholeFields cells = (i : ℕ) → i < 11 → cellAt cells (5 + i) ≤ getD largestNumbers i 0
+
 abbrev pub WholePoints : List ℕ → Type 0
 WholePoints cells = (i : ℕ) → i < 15 → cellAt cells (16 + 3 * i) ≤ 1
 
+-- any number names a type or none, and a latitude's or a longitude's type holds what a cell does
 pub record Whole (cells : List ℕ) : Type 0 where
-  pub north : cellAt cells 2 ≤ 1
-  pub height : cellAt cells 5 ≤ 1
-  pub inner : cellAt cells 12 ≤ 65535
+  pub points-count : cellAt cells 1 ≤ 255
+  pub sign : cellAt cells 2 ≤ 1
+  pub others : WholeFields cells
   pub points : WholePoints cells

@@ -87,8 +87,9 @@ heldVelocity cells = record {
   «vertical_uncertainty» = record { 0 = capped 255 (cellAt cells 6) };
 }
 
--- the numbers that their codes' types can't hold outside their fields are within them
+-- each number is one that its code's type holds; any number names a type or none
 pub record WholeVelocity (cells : List ℕ) : Type 0 where
+  pub turn : cellAt cells 1 ≤ 65535
   pub horizontal : cellAt cells 2 ≤ 65535
   pub direction : cellAt cells 3 ≤ 1
   pub vertical : cellAt cells 4 ≤ 255

@@ -16,7 +16,7 @@ ghost use mathlib.Core.List.{_++_};
 ghost use Prim.Native.Nat.{_≤_};
 ghost use lib.ListN.{length, drop};
 ghost use Rattle.ground.specs.Answers.{Decides};
-ghost use Rattle.code_cells.specs.Shapes.{shapeCells, singleCells, heldShape, heldLatitude, heldLongitude, Whole, WholePoints};
+ghost use Rattle.code_cells.specs.Shapes.{shapeCells, singleCells, heldShape, heldLatitude, heldLongitude, Whole, WholeFields, WholePoints, largestNumbers};
 ghost use Rattle.layout.specs.Shapes.{upto};
 ghost use lib.Seq.{sets};
 ghost use Rattle.code_cells.specs.Shapes.{pointCells};
@@ -37,26 +37,37 @@ pub fn put_shape(out: &mut [u32], shape: Shape)
 fn single_cells(shape: Shape) -> [u32; 16]
     ensures { λ r. ⌜ r ≡ singleCells shape ⌝ }
 {
+    let count = shape.count;
+    let altitude = shape.altitude.1;
+    let uncertainty = shape.uncertainty.0;
+    let semi_major = shape.semi_major.0;
+    let semi_minor = shape.semi_minor.0;
+    let orientation = shape.orientation.0;
+    let altitude_uncertainty = shape.altitude_uncertainty.0;
+    let inner_radius = shape.inner_radius.0;
+    let offset = shape.offset.0;
+    let included = shape.included.0;
+    let confidence = shape.confidence.0;
+    let longitude = shape.longitude;
     let kind = shape.kind;
     let type_number = layout::type_number(kind);
-    let longitude = shape.longitude;
     [
         type_number as u32,
-        shape.count as u32,
+        count as u32,
         cells::bit(shape.latitude.0),
         shape.latitude.1,
         cells::complement_of(longitude),
         cells::bit(shape.altitude.0),
-        shape.altitude.1 as u32,
-        shape.uncertainty.0 as u32,
-        shape.semi_major.0 as u32,
-        shape.semi_minor.0 as u32,
-        shape.orientation.0 as u32,
-        shape.altitude_uncertainty.0 as u32,
-        shape.inner_radius.0 as u32,
-        shape.offset.0 as u32,
-        shape.included.0 as u32,
-        shape.confidence.0 as u32,
+        altitude as u32,
+        uncertainty as u32,
+        semi_major as u32,
+        semi_minor as u32,
+        orientation as u32,
+        altitude_uncertainty as u32,
+        inner_radius as u32,
+        offset as u32,
+        included as u32,
+        confidence as u32,
     ]
 }
 
@@ -132,23 +143,47 @@ fn longitudes_in(codes: &[u32]) -> [LongitudeCode; 15]
     longitudes
 }
 
-// Whether the numbers whose types hold no more than their fields are within them: each sign, and the inner radius.
+// Whether each number is one that its code's type holds.
 pub fn shape_is_whole(codes: &[u32]) -> bool
     requires { ⌜ 61 ≤ length (now codes) ⌝ }
     ensures { λ r. ⌜ Decides r (Whole (now (codes .entry))) ⌝ }
 {
+    if 255 < codes[1] {
+        return false;
+    }
     if 1 < codes[2] {
         return false;
     }
-    if 1 < codes[5] {
-        return false;
-    }
-    if 65535 < codes[12] {
+    if !fields_are_whole(codes) {
         return false;
     }
     points_are_whole(codes)
 }
 
+// From D to the confidence.
+fn fields_are_whole(codes: &[u32]) -> bool
+    requires { ⌜ 61 ≤ length (now codes) ⌝ }
+    ensures { λ r. ⌜ Decides r (WholeFields (now (codes .entry))) ⌝ }
+{
+    let largest = largest_numbers();
+    let mut i = 0;
+    while i < 11 {
+        if largest[i] < codes[5 + i] {
+            return false;
+        }
+        i += 1;
+    }
+    true
+}
+
+// The largest number that the type of each of these codes holds.
+fn largest_numbers() -> [u32; 11]
+    ensures { λ r. ⌜ r ≡ largestNumbers ⌝ }
+{
+    [1, 65535, 255, 255, 255, 255, 255, 65535, 255, 255, 255]
+}
+
+// A point's sign is 0 or 1; its other codes' types hold every number.
 fn points_are_whole(codes: &[u32]) -> bool
     requires { ⌜ 61 ≤ length (now codes) ⌝ }
     ensures { λ r. ⌜ Decides r (WholePoints (now (codes .entry))) ⌝ }

@@ -16,16 +16,9 @@ pub fn put_velocity(out: &mut [u32], velocity: Velocity)
     requires { ⌜ 7 ≤ length (now out) ⌝ }
     ensures { λ _. ⌜ now (out .exit) ≡ velocityCells velocity ++ drop 7 (now (out .entry)) ⌝ }
 {
-    let all = cells_of(velocity);
-    cells::put_codes(out, &all);
-}
-
-fn cells_of(velocity: Velocity) -> [u32; 7]
-    ensures { λ r. ⌜ r ≡ velocityCells velocity ⌝ }
-{
     let kind = velocity.kind;
     let type_number = layout::velocity_type_number(kind);
-    [
+    let all = [
         type_number as u32,
         velocity.bearing.0 as u32,
         velocity.horizontal_speed.0 as u32,
@@ -33,7 +26,8 @@ fn cells_of(velocity: Velocity) -> [u32; 7]
         velocity.vertical_speed.1 as u32,
         velocity.uncertainty.0 as u32,
         velocity.vertical_uncertainty.0 as u32,
-    ]
+    ];
+    cells::put_codes(out, &all);
 }
 
 // The record of the cells. A number that its code's type can't hold is taken as the largest that it holds.
@@ -52,11 +46,14 @@ pub fn velocity_in(codes: &[u32]) -> Velocity
     }
 }
 
-// Whether the numbers whose types hold no more than their fields are within them: all but the type and the bearing.
+// Whether each number is one that its code's type holds.
 pub fn velocity_is_whole(codes: &[u32]) -> bool
     requires { ⌜ 7 ≤ length (now codes) ⌝ }
     ensures { λ r. ⌜ Decides r (WholeVelocity (now (codes .entry))) ⌝ }
 {
+    if 65535 < codes[1] {
+        return false;
+    }
     if 65535 < codes[2] {
         return false;
     }

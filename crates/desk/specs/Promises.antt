@@ -4,9 +4,6 @@ use mathlib.Core.List.{List}
 use Prim.Native.Nat.{ℕ}
 use lib.IntN.{ℤ, negsuc}
 use Rattle.ground.specs.Answers.{outcomeNumber, Unless, Else0}
-use Rattle.ground.specs.declared.refusals.Outcome.{Outcome}
-use Rattle.ground.specs.declared.refusals.Outcome.the-variants.{Done, Refused}
-use Rattle.ground.specs.declared.refusals.Refusal.the-variants.{OutOfRange}
 use Rattle.ground.specs.declared.told.Told.{Told}
 use Rattle.layout.specs.declared.Written.{Written}
 use Rattle.layout.specs.declared.shapes.Kind.the-variants as shape
@@ -124,7 +121,7 @@ CodesVelocityFrom cells before after n = OfArray 6 cells before after n (CodesVe
 
 pub data ChoosesIn (cells : List ℤ) (list : ℕ) (before after : List ℕ) (n : ℤ) : Type 0 where
   no-request : ((q : Request) → Says cells q → ⊥) → n ≡ negsuc 6 → after ≡ before → ChoosesIn cells list before after n
-  chosen : {q : Request} {w : Written} → Says cells q → Chooses q (receiver.Listed list) before after w
+  chosen : {q : Request} (w : Written) → Says cells q → Chooses q (receiver.Listed list) before after w
       → n ≡ answerOf (w .outcome) (w .length) → ChoosesIn cells list before after n
 
 abbrev pub ChoosesFrom : List ℤ → ℕ → List ℕ → List ℕ → ℤ → Type 0
@@ -143,11 +140,6 @@ pub record ReportsOne (field : ℕ) (code : List ℕ) (before after : List ℤ) 
   pub put : PutsCells (toldOutcome told) (single.quantityCells told) before after n
 
 -- ---- the parts
-
--- 7 where nothing comes before it
-abbrev pub elseOutOfRange : Outcome → Outcome
-elseOutOfRange Done = Refused OutOfRange
-elseOutOfRange (Refused why) = Refused why
 
 -- 2, of a velocity's kind
 abbrev pub KindAnswer : VelocityKind → ℕ → Type 0

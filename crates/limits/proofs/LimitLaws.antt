@@ -69,7 +69,7 @@ type-within AltitudePoint n = omega arith
 type-within AltitudeEllipsoid n = omega arith
 type-within Arc n = omega arith
 
-count-width : (k : Kind) (n : ℕ) → widthOf (shapeRows k n) count ≡ widthOf (shapeRows k 0) count
+pub count-width : (k : Kind) (n : ℕ) → widthOf (shapeRows k n) count ≡ widthOf (shapeRows k 0) count
 count-width Nothing n = refl
 count-width Point n = refl
 count-width Circle n = refl

@@ -69,7 +69,7 @@ module _ {A : Type 0} (f : ℕ → A) where
       getD-at (upto n f) (f n) [] z i (length-upto n ∙ sym d) ∙ ap f (sym d)
 
   -- element i of n
-  at-upto : (n i : ℕ) (z : A) → i < n → getD (upto n f) i z ≡ f i
+  pub at-upto : (n i : ℕ) (z : A) → i < n → getD (upto n f) i z ≡ f i
   at-upto zero i z h = absurd (omega arith)
   at-upto (suc n) i z h = last-or-before n i z h (at-upto n i z) (ltb i n) refl
 

@@ -47,7 +47,7 @@ kind-back AltitudePoint n h = refl
 kind-back AltitudeEllipsoid n h = refl
 kind-back Arc n h = refl
 
-type-back : (t n : ℕ) → Listed (shapeRows (kindOf t) n) → typeOf (kindOf t) ≡ t
+pub type-back : (t n : ℕ) → Listed (shapeRows (kindOf t) n) → typeOf (kindOf t) ≡ t
 type-back zero n h = refl
 type-back (suc zero) n h = refl
 type-back (suc (suc zero)) n h = absurd (omega arith)

@@ -66,7 +66,7 @@ kind-back HorizontalVertical h = refl
 kind-back HorizontalUncertain h = refl
 kind-back HorizontalVerticalUncertain h = refl
 
-type-back : (t : ℕ) → Listed (velocityRows (velocityKindOf t)) → velocityTypeOf (velocityKindOf t) ≡ t
+pub type-back : (t : ℕ) → Listed (velocityRows (velocityKindOf t)) → velocityTypeOf (velocityKindOf t) ≡ t
 type-back zero h = refl
 type-back (suc zero) h = refl
 type-back (suc (suc zero)) h = refl
@@ -103,7 +103,7 @@ module _ (k : VelocityKind) (value : Field → ℕ) (type-number : velocityTypeO
   values-of offset = unused offset (codes offset)
   values-of included = unused included (codes included)
 
-velocity-of-values : (x : Velocity) → velocityOf (x .kind) (velocityValueOf x) ≡ x
+pub velocity-of-values : (x : Velocity) → velocityOf (x .kind) (velocityValueOf x) ≡ x
 velocity-of-values x = λ j. record {
   kind = x .kind;
   bearing = x .bearing;

@@ -1,5 +1,6 @@
 -- `cells::complement_of` meets its contract: a number below zero is the complement of the complement's size. Assumes nothing.
 use borrow.Author.Needs.{needs}
+use native.Mathlib.Omega.{arith}
 use Rattle.cells.proofs.NumberLaws.{minus-casts, minus-below, minus-bits, plus-casts, plus-bits}
 use Rattle.cells.proofs.codes.complement_of.Statement.{statement}
 use Rattle.cells.proofs.codes.complement_of.Tie as tie
@@ -8,7 +9,7 @@ cast-result : tie.Need-cast-result
 cast-result c = minus-casts (c .before .before .args .code .0) (search needs) (c .if1 .taken)
 
 sub-result : tie.Need-sub-result
-sub-result c = minus-below (c .before .before .args .code .0) (search needs) (c .if1 .taken)
+sub-result c = let h = minus-below (c .before .before .args .code .0) (search needs) (c .if1 .taken) in omega arith
 
 returns : tie.Need-returns
 returns c = minus-bits (c .before .before .args .code .0) (search needs) (c .if1 .taken)

@@ -38,7 +38,7 @@ pub extern "C" fn gad_write_shape(out: &mut [u8], codes: &[u32]) -> i64
     }
     let shape = code_cells::shape_in(codes);
     if !code_cells::shape_is_whole(codes) {
-        let outcome = crate::else_out_of_range(writing::shape_outcome(shape));
+        let outcome = cells::else_out_of_range(writing::shape_outcome(shape));
         return cells::answer(outcome, 0).0;
     }
     let written = writing::write_shape(out, shape);
@@ -79,7 +79,7 @@ fn reported_in(codes: &[u32]) -> ShapeReported
     let shape = code_cells::shape_in(codes);
     if !code_cells::shape_is_whole(codes) {
         return ShapeReported {
-            outcome: crate::else_out_of_range(writing::shape_outcome(shape)),
+            outcome: cells::else_out_of_range(writing::shape_outcome(shape)),
             quantities: quantities::no_shape(),
         };
     }
@@ -94,7 +94,7 @@ fn coded_in(given: &[i64]) -> ShapeCoded
     if !quantity_cells::shape_arrives(given) {
         let kind = quantities.kind;
         return ShapeCoded {
-            outcome: crate::else_out_of_range(records::form(kind, quantities.count)),
+            outcome: cells::else_out_of_range(records::form(kind, quantities.count)),
             shape: layout::blank_shape(Kind::Nothing),
         };
     }
@@ -105,20 +105,24 @@ fn put_codes(codes: &mut [u32], outcome: Outcome, shape: Shape) -> Whole
     ensures { λ r. ⌜ PutsCells outcome (shapeCells shape) (now (codes .entry)) (now (codes .exit)) (r .0) ⌝ }
 {
     let room = codes.len();
-    let answer = cells::given_room(outcome, CODES, room);
-    if let Outcome::Done = answer {
-        code_cells::put_shape(codes, shape);
+    match cells::given_room(outcome, CODES, room) {
+        Outcome::Done => {
+            code_cells::put_shape(codes, shape);
+            cells::answer(Outcome::Done, CODES)
+        }
+        Outcome::Refused(why) => cells::answer(Outcome::Refused(why), 0),
     }
-    cells::answer(answer, CODES)
 }
 
 fn put_quantities(out: &mut [i64], outcome: Outcome, quantities: ShapeQuantities) -> Whole
     ensures { λ r. ⌜ PutsCells outcome (quantityCells quantities) (now (out .entry)) (now (out .exit)) (r .0) ⌝ }
 {
     let room = out.len();
-    let answer = cells::given_room(outcome, QUANTITIES, room);
-    if let Outcome::Done = answer {
-        quantity_cells::put_shape_quantities(out, quantities);
+    match cells::given_room(outcome, QUANTITIES, room) {
+        Outcome::Done => {
+            quantity_cells::put_shape_quantities(out, quantities);
+            cells::answer(Outcome::Done, QUANTITIES)
+        }
+        Outcome::Refused(why) => cells::answer(Outcome::Refused(why), 0),
     }
-    cells::answer(answer, QUANTITIES)
 }

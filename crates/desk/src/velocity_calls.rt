@@ -39,7 +39,7 @@ pub extern "C" fn gad_write_velocity(out: &mut [u8], codes: &[u32]) -> i64
     }
     let velocity = code_cells::velocity_in(codes);
     if !code_cells::velocity_is_whole(codes) {
-        let outcome = crate::else_out_of_range(velocities::velocity_outcome(velocity));
+        let outcome = cells::else_out_of_range(velocities::velocity_outcome(velocity));
         return cells::answer(outcome, 0).0;
     }
     let written = velocities::write_velocity(out, velocity);
@@ -80,7 +80,7 @@ fn reported_in(codes: &[u32]) -> VelocityReported
     let velocity = code_cells::velocity_in(codes);
     if !code_cells::velocity_is_whole(codes) {
         return VelocityReported {
-            outcome: crate::else_out_of_range(velocities::velocity_outcome(velocity)),
+            outcome: cells::else_out_of_range(velocities::velocity_outcome(velocity)),
             quantities: quantities::no_velocity(),
         };
     }
@@ -95,7 +95,7 @@ fn coded_in(given: &[i64]) -> VelocityCoded
     if !quantity_cells::velocity_arrives(given) {
         let kind = quantities.kind;
         return VelocityCoded {
-            outcome: crate::else_out_of_range(kind_outcome(kind)),
+            outcome: cells::else_out_of_range(kind_outcome(kind)),
             velocity: layout::blank_velocity(VelocityKind::Nothing),
         };
     }
@@ -119,20 +119,24 @@ fn put_codes(codes: &mut [u32], outcome: Outcome, velocity: Velocity) -> Whole
     ensures { λ r. ⌜ PutsCells outcome (velocityCells velocity) (now (codes .entry)) (now (codes .exit)) (r .0) ⌝ }
 {
     let room = codes.len();
-    let answer = cells::given_room(outcome, CODES, room);
-    if let Outcome::Done = answer {
-        code_cells::put_velocity(codes, velocity);
+    match cells::given_room(outcome, CODES, room) {
+        Outcome::Done => {
+            code_cells::put_velocity(codes, velocity);
+            cells::answer(Outcome::Done, CODES)
+        }
+        Outcome::Refused(why) => cells::answer(Outcome::Refused(why), 0),
     }
-    cells::answer(answer, CODES)
 }
 
 fn put_quantities(out: &mut [i64], outcome: Outcome, quantities: VelocityQuantities) -> Whole
     ensures { λ r. ⌜ PutsCells outcome (velocityQuantityCells quantities) (now (out .entry)) (now (out .exit)) (r .0) ⌝ }
 {
     let room = out.len();
-    let answer = cells::given_room(outcome, QUANTITIES, room);
-    if let Outcome::Done = answer {
-        quantity_cells::put_velocity_quantities(out, quantities);
+    match cells::given_room(outcome, QUANTITIES, room) {
+        Outcome::Done => {
+            quantity_cells::put_velocity_quantities(out, quantities);
+            cells::answer(Outcome::Done, QUANTITIES)
+        }
+        Outcome::Refused(why) => cells::answer(Outcome::Refused(why), 0),
     }
-    cells::answer(answer, QUANTITIES)
 }

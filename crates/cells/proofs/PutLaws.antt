@@ -1,0 +1,60 @@
+-- What is put into an array, by its room; and only one answer and one array. Assumes nothing.
+use mathlib.Core.Path.{_≡_, refl, sym, ap, _∙_}
+use mathlib.Core.Bool.{Bool, true, false}
+use mathlib.Core.List.{List, _++_}
+use Prim.Native.Nat.{ℕ, _-_, _≤_, _<_}
+use native.Mathlib.Omega.{arith}
+use lib.IntN.{ℤ, pos, negsuc}
+use lib.ListN.{length, drop}
+use lib.Dec.{ltb}
+use borrow.Author.Tests.{ltb-false, lt-ltb, le-ltb}
+use Rattle.ground.specs.Answers.{numberOf, handed}
+use Rattle.ground.specs.declared.refusals.Outcome.{Outcome}
+use Rattle.ground.specs.declared.refusals.Outcome.the-variants.{Done, Refused}
+use Rattle.ground.specs.declared.refusals.Refusal.{Refusal}
+use Rattle.ground.specs.declared.refusals.Refusal.the-variants.{BufferTooShort}
+use Rattle.cells.specs.Answers.{answerOf, givenRoom, PutsCells, OfArray, too-short, long-enough}
+
+refused-not-done : {why : Refusal} → _≡_ {A = Outcome} Done (Refused why) → ⊥
+refused-not-done e = let z : _≡_ {A = ℕ} 0 1 = cc in absurd (omega arith)
+
+module _ {A : Type 0} {cells before after : List A} {n : ℤ} where
+  -- by the outcome that is left when the room is looked at
+  pub puts-by : {outcome left : Outcome} → left ≡ givenRoom outcome (length cells) (length before) → n ≡ answerOf left (length cells)
+      → after ≡ handed left (cells ++ drop (length cells) before) before → PutsCells outcome cells before after n
+  puts-by e a b = record { answer = rw (← e) a; array = rw (← e) b }
+
+  pub puts-done : length cells ≤ length before → n ≡ pos (length cells) → after ≡ cells ++ drop (length cells) before
+      → PutsCells Done cells before after n
+  puts-done h a b = puts-by {outcome = Done} {left = Done} (simp (le-ltb (length before) (length cells) h)) a b
+
+  pub puts-short : length before < length cells → n ≡ negsuc 9 → after ≡ before → PutsCells Done cells before after n
+  puts-short h a b = puts-by {outcome = Done} {left = Refused BufferTooShort} (simp (lt-ltb (length before) (length cells) h)) a b
+
+  pub puts-refused : {why : Refusal} → n ≡ negsuc (numberOf why - 1) → after ≡ before → PutsCells (Refused why) cells before after n
+  puts-refused a b = record { answer = a; array = b }
+
+-- one answer and one array
+module _ {A : Type 0} {outcome other : Outcome} {cells others before after after′ : List A} {n n′ : ℤ} (e : outcome ≡ other) (f : cells ≡ others) (p : PutsCells outcome cells before after n) (q : PutsCells other others before after′ n′) where
+  pub puts-answer-one : n ≡ n′
+  puts-answer-one = p .answer ∙ (let a = e in let b = f in let c = q .answer in cc)
+
+  pub puts-array-one : after ≡ after′
+  puts-array-one = p .array ∙ (let a = e in let b = f in let c = q .array in cc)
+
+module _ {A B : Type 0} {cells : ℕ} {given : List A} {before after after′ : List B} {n n′ : ℤ} {said said′ : Type 0} where
+  pub of-array-one : OfArray cells given before after n said → OfArray cells given before after′ n′ said′
+      → (said → said′ → (n ≡ n′) × (after ≡ after′)) → (n ≡ n′) × (after ≡ after′)
+  of-array-one (too-short h a b) (too-short h′ a′ b′) one = (a ∙ sym a′, b ∙ sym b′)
+  of-array-one (too-short h a b) (long-enough h′ s) one = absurd (omega arith)
+  of-array-one (long-enough h s) (too-short h′ a b) one = absurd (omega arith)
+  of-array-one (long-enough h s) (long-enough h′ s′) one = one s s′
+
+-- what is done, the room looked at, has room
+pub had-room : (outcome : Outcome) (wanted room : ℕ) → Done ≡ givenRoom outcome wanted room → wanted ≤ room
+had-room Done wanted room e = by (ltb room wanted) refl
+  where
+    by : (t : Bool) → ltb room wanted ≡ t → wanted ≤ room
+    by true h = absurd (refused-not-done {why = BufferTooShort} (e ∙ simp h))
+    by false h = ltb-false room wanted h
+had-room (Refused why) wanted room e = absurd (refused-not-done e)

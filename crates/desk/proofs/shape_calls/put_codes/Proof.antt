@@ -1,0 +1,48 @@
+-- The cells are put where there is room, and only there. Assumes nothing.
+use mathlib.Core.Path.{refl, sym, _∙_}
+use Rattle.ground.specs.declared.refusals.Outcome.the-variants.{Done, Refused}
+use Rattle.cells.proofs.PutLaws.{puts-by, had-room}
+use borrow.Author.Needs.{needs}
+use Rattle.desk.proofs.shape_calls.put_codes.Statement.{statement}
+use Rattle.desk.proofs.shape_calls.put_codes.Tie as tie
+
+given-room-requires : tie.Need-given-room-requires
+given-room-requires c κs = search needs
+
+enum-told : tie.Need-enum-told
+enum-told c = search needs
+
+put-shape-requires : tie.Need-put-shape-requires
+put-shape-requires c κs = had-room (c .before .before .before .before .before .args .outcome) 61 _ (sym (c .before .enum-told .given .1) ∙ c .before .before .before .given-room .ensures)
+
+answer-requires : tie.Need-answer-requires
+answer-requires c κs = search needs
+
+enum-known-why : tie.Need-enum-known-why
+enum-known-why c = search needs
+
+answer-requires-2 : tie.Need-answer-requires-2
+answer-requires-2 c κs = search needs
+
+same-length : tie.Need-same-length
+same-length c = search needs
+
+returns : tie.Need-returns
+returns c = puts-by {outcome = c .before .before .before .before .before .before .before .before .before .args .outcome} {left = Done} (sym (c .before .before .before .before .before .enum-told .given .1) ∙ c .before .before .before .before .before .before .before .given-room .ensures) (c .answer .ensures) (c .before .before .before .put-shape .ensures)
+
+returns-2 : tie.Need-returns-2
+returns-2 c = puts-by {outcome = c .before .before .before .before .before .before .args .outcome} {left = Refused (c .before .before .why .given .0 .0)} (sym (c .before .before .why .given .1) ∙ c .before .before .before .before .given-room .ensures) (c .answer2 .ensures) refl
+
+pub put-codes-spec : {M : Type 1} → statement M
+put-codes-spec =
+    tie.close
+    (tie.spec
+    given-room-requires
+    enum-told
+    put-shape-requires
+    answer-requires
+    enum-known-why
+    answer-requires-2
+    same-length
+    returns
+    returns-2)

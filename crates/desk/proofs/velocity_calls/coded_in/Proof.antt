@@ -1,0 +1,43 @@
+-- The quantities that the cells say are coded, or are 7 after what comes before it. Assumes nothing.
+use Rattle.ground.proofs.AnswerLaws.{shown, refuted}
+use Rattle.desk.proofs.DeskLaws.{misfit-velocity-codes, arrived-velocity-codes}
+use borrow.Author.Needs.{needs}
+use Rattle.desk.proofs.velocity_calls.coded_in.Statement.{statement}
+use Rattle.desk.proofs.velocity_calls.coded_in.Tie as tie
+
+velocity-quantities-in-requires : tie.Need-velocity-quantities-in-requires
+velocity-quantities-in-requires c κs = search needs
+
+velocity-arrives-requires : tie.Need-velocity-arrives-requires
+velocity-arrives-requires c κs = search needs
+
+kind-outcome-requires : tie.Need-kind-outcome-requires
+kind-outcome-requires c κs = search needs
+
+else-out-of-range-requires : tie.Need-else-out-of-range-requires
+else-out-of-range-requires c κs = search needs
+
+blank-velocity-requires : tie.Need-blank-velocity-requires
+blank-velocity-requires c κs = search needs
+
+returns : tie.Need-returns
+returns c = misfit-velocity-codes (c .before .before .before .before .before .before .args .given .now) _ (c .before .before .kind-outcome .result) (c .before .else-out-of-range .ensures) (c .blank-velocity .ensures) (rw (c .before .before .before .before .before .velocity-quantities-in .ensures) at (c .before .before .kind-outcome .ensures)) (refuted (c .before .before .before .before .velocity-arrives .result) (c .before .before .before .if1 .taken) (c .before .before .before .before .velocity-arrives .ensures))
+
+code-velocity-requires : tie.Need-code-velocity-requires
+code-velocity-requires c κs = search needs
+
+returns-2 : tie.Need-returns-2
+returns-2 c = arrived-velocity-codes (c .before .before .before .before .args .given .now) (c .code-velocity .result) (shown (c .before .before .velocity-arrives .result) (c .before .if1 .left) (c .before .before .velocity-arrives .ensures)) (rw (c .before .before .before .velocity-quantities-in .ensures) at (c .code-velocity .ensures))
+
+pub coded-in-spec : {M : Type 1} → statement M
+coded-in-spec =
+    tie.close
+    (tie.spec
+    velocity-quantities-in-requires
+    velocity-arrives-requires
+    kind-outcome-requires
+    else-out-of-range-requires
+    blank-velocity-requires
+    returns
+    code-velocity-requires
+    returns-2)

@@ -1,0 +1,65 @@
+-- The record made of the cells is written, or refused as the cells' numbers are. Assumes nothing.
+use mir.Syntax.{w64}
+use mir.Facts.{toZ-ofZ}
+use mathlib.Core.Path.{refl}
+use native.Mathlib.Omega.{arith}
+use Rattle.cells.specs.Answers.{too-short, long-enough}
+use Rattle.ground.proofs.AnswerLaws.{shown, refuted}
+use Rattle.alike.proofs.VelocityLaws.{held-velocity-writes, held-velocity-misfit}
+use Rattle.desk.proofs.DeskLaws.{written-within, misfit-told}
+use borrow.Author.Needs.{needs}
+use Rattle.desk.proofs.velocity_calls.gad_write_velocity.Statement.{statement}
+use Rattle.desk.proofs.velocity_calls.gad_write_velocity.Tie as tie
+
+answer-requires : tie.Need-answer-requires
+answer-requires c κs = search needs
+
+returns : tie.Need-returns
+returns c = rw (toZ-ofZ {w = w64} {z = c .before .answer .result .0} (search needs)) (too-short (omega arith) (c .before .answer .ensures) refl)
+
+velocity-in-requires : tie.Need-velocity-in-requires
+velocity-in-requires c κs = search needs
+
+velocity-is-whole-requires : tie.Need-velocity-is-whole-requires
+velocity-is-whole-requires c κs = search needs
+
+velocity-outcome-requires : tie.Need-velocity-outcome-requires
+velocity-outcome-requires c κs = search needs
+
+else-out-of-range-requires : tie.Need-else-out-of-range-requires
+else-out-of-range-requires c κs = search needs
+
+answer-requires-2 : tie.Need-answer-requires-2
+answer-requires-2 c κs = search needs
+
+returns-2 : tie.Need-returns-2
+returns-2 c = rw (toZ-ofZ {w = w64} {z = c .before .answer2 .result .0} (search needs)) (long-enough (omega arith) (misfit-told (c .before .before .before .velocity-outcome .result) (held-velocity-misfit (c .before .before .before .before .before .before .before .before .before .before .args .codes .now) (refuted (c .before .before .before .before .before .velocity-is-whole .result) (c .before .before .before .before .if2 .taken) (c .before .before .before .before .before .velocity-is-whole .ensures)) (c .before .before .before .velocity-outcome .result) _ (rw (c .before .before .before .before .before .before .velocity-in .ensures) at (c .before .before .before .velocity-outcome .ensures))) (rw (c .before .before .else-out-of-range .ensures) at (c .before .answer2 .ensures))))
+
+write-velocity-requires : tie.Need-write-velocity-requires
+write-velocity-requires c κs = search needs
+
+answer-requires-3 : tie.Need-answer-requires-3
+answer-requires-3 c κs = omega (arith, written-within (c .before .before .write-velocity .ensures))
+
+same-length : tie.Need-same-length
+same-length c = search needs
+
+returns-3 : tie.Need-returns-3
+returns-3 c = rw (toZ-ofZ {w = w64} {z = c .before .answer3 .result .0} (search needs)) (long-enough (omega arith) (record { written = c .before .before .before .before .write-velocity .result; promise = held-velocity-writes (c .before .before .before .before .before .before .before .before .before .before .before .before .args .codes .now) (shown (c .before .before .before .before .before .before .before .velocity-is-whole .result) (c .before .before .before .before .before .before .if2 .left) (c .before .before .before .before .before .before .before .velocity-is-whole .ensures)) _ _ (c .before .before .before .before .write-velocity .result) (rw (c .before .before .before .before .before .before .before .before .velocity-in .ensures) at (c .before .before .before .before .write-velocity .ensures)); told = c .before .answer3 .ensures }))
+
+pub gad-write-velocity-spec : {M : Type 1} → statement M
+gad-write-velocity-spec =
+    tie.close
+    (tie.spec
+    answer-requires
+    returns
+    velocity-in-requires
+    velocity-is-whole-requires
+    velocity-outcome-requires
+    else-out-of-range-requires
+    answer-requires-2
+    returns-2
+    write-velocity-requires
+    answer-requires-3
+    same-length
+    returns-3)

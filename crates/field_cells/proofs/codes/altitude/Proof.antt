@@ -1,0 +1,30 @@
+-- `codes::altitude` meets its contract: the cell is of 32 bits with a sign, or there is no quantity. Assumes nothing.
+use mathlib.Core.Path.{refl}
+use mir.Syntax.{w32}
+use mir.Facts.{toZ-ofZ}
+use Rattle.ground.proofs.AnswerLaws.{shown, refuted}
+use Rattle.field_cells.specs.Fields.{outside, coded}
+use Rattle.field_cells.proofs.FieldLaws.{signed-at}
+use borrow.Author.Needs.{needs}
+use Rattle.field_cells.proofs.codes.altitude.Statement.{statement}
+use Rattle.field_cells.proofs.codes.altitude.Tie as tie
+
+is-signed-requires : tie.Need-is-signed-requires
+is-signed-requires c κs = search needs
+
+returns : tie.Need-returns
+returns c = outside (λ x i. refuted (c .before .is-signed .result) (c .if1 .taken) (c .before .is-signed .ensures) (i .fits)) refl
+
+signed-requires : tie.Need-signed-requires
+signed-requires c κs = search needs
+
+coded-altitude-requires : tie.Need-coded-altitude-requires
+coded-altitude-requires c κs = search needs
+
+returns-2 : tie.Need-returns-2
+returns-2 c = coded (signed-at (c .before .before .before .before .before .args .quantity .0) (shown (c .before .before .before .before .is-signed .result) (c .before .before .before .if1 .left) (c .before .before .before .before .is-signed .ensures))) (rw (toZ-ofZ {w = w32} {z = c .before .before .signed .result .0} (search needs), c .before .before .signed .ensures) at (c .coded-altitude .ensures))
+
+pub altitude-spec : {M : Type 1} → statement M
+altitude-spec =
+    tie.close
+    (tie.spec is-signed-requires returns signed-requires coded-altitude-requires returns-2)

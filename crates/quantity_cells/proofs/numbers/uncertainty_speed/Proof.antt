@@ -1,0 +1,23 @@
+-- `quantity_cells::uncertainty_speed` meets its contract: none where the cell is missing, else its number. Assumes nothing.
+use Prim.Native.Nat.{ℕ}
+use Rattle.ground.specs.declared.quantities.UncertaintySpeed.the-variants as uncertain
+use Rattle.quantity_cells.proofs.CellLaws.{absent, present}
+use borrow.Author.Needs.{needs}
+use Rattle.quantity_cells.proofs.numbers.uncertainty_speed.Statement.{statement}
+use Rattle.quantity_cells.proofs.numbers.uncertainty_speed.Tie as tie
+
+is-missing-requires : tie.Need-is-missing-requires
+is-missing-requires c κs = search needs
+
+returns : tie.Need-returns
+returns c = absent (c .before .before .args .cell .0) uncertain.Missing (λ (n : ℕ). uncertain.Speed (record { 0 = n })) (rw (c .if1 .taken) at (c .before .is-missing .ensures))
+
+natural-requires : tie.Need-natural-requires
+natural-requires c κs = search needs
+
+returns-2 : tie.Need-returns-2
+returns-2 c = present (c .before .before .before .args .cell .0) uncertain.Missing (λ (n : ℕ). uncertain.Speed (record { 0 = n })) (rw (c .before .if1 .left) at (c .before .before .is-missing .ensures)) (c .natural .ensures)
+
+pub uncertainty-speed-spec : {M : Type 1} → statement M
+uncertainty-speed-spec =
+    tie.close (tie.spec is-missing-requires returns natural-requires returns-2)

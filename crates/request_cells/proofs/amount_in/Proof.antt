@@ -1,0 +1,29 @@
+-- `request_cells::amount_in` meets its contract: none where the cell is missing, else its number, which 32 bits hold. Assumes nothing.
+use Rattle.ground.proofs.AnswerLaws.{shown, refuted}
+use Rattle.request_cells.proofs.RequestLaws.{natural-says, no-amount}
+use borrow.Author.Needs.{needs}
+use Rattle.request_cells.proofs.amount_in.Statement.{statement}
+use Rattle.request_cells.proofs.amount_in.Tie as tie
+
+is-missing-requires : tie.Need-is-missing-requires
+is-missing-requires c κs = search needs
+
+returns : tie.Need-returns
+returns c = rw (c .if1 .taken) at (c .before .is-missing .ensures)
+
+is-natural-requires : tie.Need-is-natural-requires
+is-natural-requires c κs = search needs
+
+returns-2 : tie.Need-returns-2
+returns-2 c = no-amount (c .before .before .before .before .args .cell .0) (rw (c .before .before .if1 .left) at (c .before .before .before .is-missing .ensures)) (refuted (c .before .is-natural .result) (c .if2 .taken) (c .before .is-natural .ensures))
+
+natural-requires : tie.Need-natural-requires
+natural-requires c κs = search needs
+
+returns-3 : tie.Need-returns-3
+returns-3 c = natural-says (c .before .before .before .before .before .args .cell .0) (shown (c .before .before .is-natural .result) (c .before .if2 .left) (c .before .before .is-natural .ensures)) (c .natural .ensures)
+
+pub amount-in-spec : {M : Type 1} → statement M
+amount-in-spec =
+    tie.close
+    (tie.spec is-missing-requires returns is-natural-requires returns-2 natural-requires returns-3)
