@@ -1,188 +1,13 @@
 // Test inputs from a seed: frames for the lister, requests for the chooser, lines for the coder. See usage() at the end.
 #include "coder.h"
+#include "some.h"
 
 #include <stdarg.h>
 #include <stdio.h>
 #include <stdlib.h>
 #include <string.h>
 
-// ---- Chance ----
-
-static uint64_t state;
-
-static void seed_with(uint64_t seed)
-{
-    state = (seed + 1) * UINT64_C(0x9E3779B97F4A7C15);
-    state ^= state >> 29;
-    if (state == 0)
-        state = 1;
-}
-
-// xorshift64*
-static uint64_t chance(void)
-{
-    state ^= state >> 12;
-    state ^= state << 25;
-    state ^= state >> 27;
-    return state * UINT64_C(0x2545F4914F6CDD1D);
-}
-
-static uint32_t below(uint32_t limit)
-{
-    return (uint32_t)((chance() >> 32) * limit >> 32);
-}
-
-static int one_in(uint32_t n)
-{
-    return below(n) == 0;
-}
-
-#define PICK(list) ((list)[below((uint32_t)(sizeof(list) / sizeof((list)[0])))])
-
 // ---- Frames ----
-
-enum what { SPARE, SIGN, LATITUDE_BITS, LONGITUDE_BITS, SEVEN, ANGLE, CONFIDENCE_BITS, ALTITUDE_BITS, SIXTEEN, EIGHT, BEARING_BITS };
-
-struct field {
-    uint16_t first; // bit, 0 is the high bit of octet 1
-    uint16_t width; // 0 ends the list
-    enum what what;
-};
-
-#define START {4, 4, SPARE}, {8, 1, SIGN}, {9, 23, LATITUDE_BITS}, {32, 24, LONGITUDE_BITS}
-#define MOVING {7, 9, BEARING_BITS}, {16, 16, SIXTEEN}
-
-static const struct field shape_fields[16][16] = {
-    [POINT] = {START},
-    [CIRCLE] = {START, {56, 1, SPARE}, {57, 7, SEVEN}},
-    [ELLIPSE] = {START, {56, 1, SPARE}, {57, 7, SEVEN}, {64, 1, SPARE}, {65, 7, SEVEN}, {72, 8, ANGLE}, {80, 1, SPARE}, {81, 7, CONFIDENCE_BITS}},
-    [ALTITUDE] = {START, {56, 1, SIGN}, {57, 15, ALTITUDE_BITS}},
-    [ELLIPSOID] = {START, {56, 1, SIGN}, {57, 15, ALTITUDE_BITS}, {72, 1, SPARE}, {73, 7, SEVEN}, {80, 1, SPARE}, {81, 7, SEVEN}, {88, 8, ANGLE},
-        {96, 1, SPARE}, {97, 7, SEVEN}, {104, 1, SPARE}, {105, 7, CONFIDENCE_BITS}},
-    [ARC] = {START, {56, 16, SIXTEEN}, {72, 1, SPARE}, {73, 7, SEVEN}, {80, 8, ANGLE}, {88, 8, ANGLE}, {96, 1, SPARE}, {97, 7, CONFIDENCE_BITS}},
-};
-static const uint8_t shape_octets[16] = {[POINT] = 7, [CIRCLE] = 8, [ELLIPSE] = 11, [ALTITUDE] = 9, [ELLIPSOID] = 14, [ARC] = 13};
-
-static const struct field velocity_fields[4][16] = {
-    {{4, 3, SPARE}, MOVING},
-    {{4, 2, SPARE}, {6, 1, SIGN}, MOVING, {32, 8, EIGHT}},
-    {{4, 3, SPARE}, MOVING, {32, 8, EIGHT}},
-    {{4, 2, SPARE}, {6, 1, SIGN}, MOVING, {32, 8, EIGHT}, {40, 8, EIGHT}, {48, 8, EIGHT}},
-};
-static const uint8_t velocity_octets[4] = {4, 5, 5, 7};
-
-static void put_bits(uint8_t *message, uint32_t first, uint32_t width, uint32_t code)
-{
-    for (uint32_t i = 0; i < width; i++) {
-        uint32_t bit = first + i;
-        uint8_t mask = (uint8_t)(128 >> (bit & 7));
-        if (code >> (width - 1 - i) & 1)
-            message[bit >> 3] |= mask;
-        else
-            message[bit >> 3] &= (uint8_t)~mask;
-    }
-}
-
-static uint32_t some_code(enum what what, uint32_t width)
-{
-    static const uint32_t angles[] = {0, 1, 89, 90, 178, 179, 180, 181, 255};
-    static const uint32_t confidences[] = {0, 1, 50, 99, 100, 101, 102, 127};
-    static const uint32_t bearings[] = {0, 1, 255, 256, 257, 358, 359, 360, 361, 510, 511};
-    uint32_t most = (uint32_t)((UINT64_C(1) << width) - 1);
-    if (what == SPARE)
-        return one_in(2) ? 0 : (uint32_t)chance() & most;
-    if (what == SIGN)
-        return below(2);
-    if (one_in(8)) {
-        uint32_t half = most / 2;
-        uint32_t ends[] = {0, 1, 2, half - 1, half, half + 1, half + 2, most - 2, most - 1, most};
-        switch (what) {
-        case ANGLE:
-            return PICK(angles);
-        case CONFIDENCE_BITS:
-            return PICK(confidences);
-        case BEARING_BITS:
-            return PICK(bearings);
-        default:
-            return PICK(ends);
-        }
-    }
-    if (one_in(32)) // a small number, or one of few digits
-        return below(1200) & most;
-    uint32_t usual = what == ANGLE ? 180 : what == CONFIDENCE_BITS ? 101 : what == BEARING_BITS ? 360 : 0;
-    return usual && !one_in(64) ? below(usual) : (uint32_t)chance() & most;
-}
-
-static void fill_fields(uint8_t *message, const struct field *field)
-{
-    for (; field->width != 0; field++)
-        put_bits(message, field->first, field->width, some_code(field->what, field->width));
-}
-
-static void fill_octets(uint8_t *message, size_t length)
-{
-    for (size_t i = 0; i < length; i++)
-        message[i] = (uint8_t)chance();
-}
-
-static size_t some_polygon(uint8_t *message)
-{
-    uint32_t count = one_in(16) ? below(3) : 3 + below(13);
-    message[0] = (uint8_t)(0x50 | count);
-    for (uint32_t i = 0; i < count; i++) {
-        put_bits(message, 8 + 48 * i, 1, below(2));
-        put_bits(message, 9 + 48 * i, 23, some_code(LATITUDE_BITS, 23));
-        put_bits(message, 32 + 48 * i, 24, some_code(LONGITUDE_BITS, 24));
-    }
-    return 1 + 6 * count;
-}
-
-static size_t some_shape(uint8_t *message)
-{
-    static const uint8_t types[] = {POINT, CIRCLE, CIRCLE, ELLIPSE, ELLIPSE, POLYGON, ALTITUDE, ELLIPSOID, ELLIPSOID, ARC, ARC};
-    uint32_t type = PICK(types);
-    if (type == POLYGON)
-        return some_polygon(message);
-    put_bits(message, 0, 4, type);
-    fill_fields(message, shape_fields[type]);
-    return shape_octets[type];
-}
-
-static size_t some_velocity(uint8_t *message)
-{
-    uint32_t type = below(4);
-    put_bits(message, 0, 4, type);
-    fill_fields(message, velocity_fields[type]);
-    return velocity_octets[type];
-}
-
-static size_t damage(uint8_t *message, size_t length)
-{
-    switch (below(8)) {
-    case 0: // cut
-        return length == 0 ? 0 : below((uint32_t)length);
-    case 1: // one octet less or more
-        return one_in(2) && length > 0 ? length - 1 : length < LONGEST_MESSAGE ? length + 1 : length;
-    case 2: // longer
-        return length + below((uint32_t)(LONGEST_MESSAGE + 1 - length));
-    case 3: // a flipped bit
-        if (length > 0)
-            message[below((uint32_t)length)] ^= (uint8_t)(1 << below(8));
-        return length;
-    case 4: // another type
-        put_bits(message, 0, 4, below(16));
-        return length;
-    case 5: // another polygon count
-        message[0] = (uint8_t)(0x50 | below(16));
-        return length;
-    case 6: // anything
-        fill_octets(message, LONGEST_MESSAGE);
-        return below(LONGEST_MESSAGE + 1);
-    default: // a few octets of anything
-        fill_octets(message, LONGEST_MESSAGE);
-        return below(20);
-    }
-}
 
 static void put_frame(uint32_t kind, const uint8_t *message, size_t length)
 {
@@ -369,108 +194,6 @@ static void show(uint64_t wanted)
     putchar('\n');
 }
 
-// ---- Quantities at and around the boundaries of their codes ----
-
-static int64_t around(int64_t x)
-{
-    static const int steps[] = {-1, 0, 0, 1};
-    return x + PICK(steps);
-}
-
-static int64_t signed_at_random(int64_t x)
-{
-    return one_in(2) ? -x : x;
-}
-
-// A coordinate of either sign: at an end, out of range, anywhere up to the most, or about where a code starts.
-static int64_t some_coordinate(int64_t end, int64_t beyond, int64_t most, int64_t (*start)(uint32_t code))
-{
-    if (one_in(60))
-        return one_in(8) ? INT64_MIN : signed_at_random(beyond);
-    if (one_in(6))
-        return signed_at_random(end);
-    uint32_t code = one_in(8) ? below(8) : one_in(8) ? 8388607 - below(8) : (uint32_t)chance() & 8388607;
-    if (one_in(3))
-        return signed_at_random((int64_t)(chance() % (uint64_t)(most + 1)));
-    return signed_at_random(around(start(code)));
-}
-
-static int64_t north(uint32_t code)
-{
-    return latitude_of(0, code);
-}
-
-static int64_t east(uint32_t code)
-{
-    return longitude_of((int32_t)code);
-}
-
-static int64_t some_latitude(void)
-{
-    static const int64_t ends[] = {0, 1, 2, 10727, 10728, 10729, 21457, 21458, 89999989270, 89999989271, 89999989272, 90000000000};
-    static const int64_t beyond[] = {90000000001, 90000000002, 180000000000, 8589934592, INT64_MAX};
-    return some_coordinate(PICK(ends), PICK(beyond), NINETY_DEGREES, north);
-}
-
-static int64_t some_longitude(void)
-{
-    static const int64_t ends[] = {0, 1, 2, 21456, 21457, 21458, 21459, 42915, 179999978542, 179999978543, 179999999999, 180000000000};
-    static const int64_t beyond[] = {180000000001, 180000000002, 360000000000, 17179869184, INT64_MAX};
-    return some_coordinate(PICK(ends), PICK(beyond), HALF_TURN, east);
-}
-
-static int64_t some_altitude(void)
-{
-    static const int64_t ends[] = {0, 1, 999, 1000, 1001, 32766999, 32767000, 32767999, 32768000, 2147483646, 2147483647};
-    if (one_in(4))
-        return one_in(16) ? INT32_MIN : signed_at_random(PICK(ends));
-    if (one_in(4))
-        return signed_at_random(chance() >> 33);
-    return signed_at_random(around(1000 * (int64_t)(1 + below(32768))));
-}
-
-static int64_t some_entry(const uint32_t table[128])
-{
-    if (one_in(64))
-        return one_in(2) ? (int64_t)table[127] + 1 + below(3) : (int64_t)(table[127] + (chance() >> 32) % (UINT32_MAX - table[127] + UINT64_C(1)));
-    if (one_in(4))
-        return below(table[127] + 1);
-    uint32_t entry = table[one_in(8) ? 127 - below(3) : below(128)];
-    return entry == 0 ? below(3) : (int64_t)entry - 1 + below(3);
-}
-
-static int64_t some_angle(uint32_t step, uint32_t whole)
-{
-    if (one_in(64)) {
-        uint32_t beyond[] = {whole, whole + 1, 2 * whole, UINT32_MAX};
-        return PICK(beyond);
-    }
-    if (one_in(4))
-        return below(whole);
-    int64_t a = around((int64_t)step * below(whole / step + 1));
-    return a < 0 ? 0 : one_in(2) && a >= whole ? whole - 1 : a;
-}
-
-static int64_t some_speed(int64_t most)
-{
-    static const int64_t ends[] = {0, 1, 499, 500, 501, 1499, 1500};
-    if (one_in(8))
-        return PICK(ends);
-    if (one_in(16))
-        return most - below(1200);
-    if (one_in(8))
-        return (int64_t)((chance() >> 32) % ((uint64_t)most + 1));
-    int64_t h = 500 * (int64_t)below(one_in(2) ? 600 : 131080);
-    h = around(h);
-    return h < 0 ? 0 : h > most ? most : h;
-}
-
-static int64_t some_confidence(void)
-{
-    static const int64_t odd[] = {0, 1, 2, 99, 100, 101, 127, 128, 255, 256, 257, 356, 65536, 4294967295};
-    return one_in(16) ? PICK(odd) : 1 + below(100);
-}
-
 // ---- Text ----
 
 static char text[16384];
@@ -583,41 +306,11 @@ static void say_field(int given, int64_t value)
         say("-");
 }
 
-static void some_request(void)
+static void say_request(void)
 {
-    uint32_t horizontal = one_in(2) ? 2 : below(3); // none, a circle, an ellipse
-    int has_altitude = one_in(3), has_vertical = has_altitude ? !one_in(4) : one_in(10), has_confidence = one_in(3);
-    int64_t major = some_entry(radius_table), minor = some_entry(radius_table);
-    if (one_in(4) && major > 0)
-        minor = major - below(3);
-    if (minor < 0)
-        minor = 0;
-    if (minor > major && !one_in(40)) {
-        int64_t swap = minor;
-        minor = major;
-        major = swap;
-    }
-    int has_major = horizontal != 0, has_minor = horizontal == 2, has_orientation = horizontal == 2;
-    int has_latitude = 1, has_longitude = 1;
-    if (one_in(50)) {
-        uint32_t given = (uint32_t)chance();
-        has_latitude = given & 1;
-        has_longitude = given >> 1 & 1;
-        has_major = given >> 2 & 1;
-        has_minor = given >> 3 & 1;
-        has_orientation = given >> 4 & 1;
-        has_altitude = given >> 5 & 1;
-        has_vertical = given >> 6 & 1;
-        has_confidence = given >> 7 & 1;
-    }
-    say_field(has_latitude, some_latitude());
-    say_field(has_longitude, some_longitude());
-    say_field(has_altitude, some_altitude());
-    say_field(has_major, major);
-    say_field(has_minor, minor);
-    say_field(has_orientation, some_angle(1000, 180000));
-    say_field(has_vertical, some_entry(height_table));
-    say_field(has_confidence, some_confidence());
+    struct wanted wanted = some_request();
+    for (uint32_t i = 0; i < REQUEST_FIELDS; i++)
+        say_field((int)(wanted.given >> i & 1), wanted.value[i]);
 }
 
 static void requests(const char *list, uint64_t seed, uint64_t count)
@@ -625,7 +318,7 @@ static void requests(const char *list, uint64_t seed, uint64_t count)
     seed_with(seed);
     printf("%s\n", list);
     for (uint64_t i = 0; i < count; i++) {
-        some_request();
+        say_request();
         if (one_in(40))
             spoil();
         put_line();
@@ -696,53 +389,6 @@ static void every_request(const char *list)
 
 static const char *const names[] = {"latitude", "longitude", "uncertainty", "altitude-uncertainty", "altitude", "inner-radius", "offset",
     "included", "orientation", "bearing", "horizontal-speed", "vertical-speed", "uncertainty-speed", "confidence"};
-
-static int64_t some_quantity(uint32_t field)
-{
-    switch (field) {
-    case 0:
-        return some_latitude();
-    case 1:
-        return some_longitude();
-    case 2:
-        return some_entry(radius_table);
-    case 3:
-        return some_entry(height_table);
-    case 4:
-        return some_altitude();
-    case 5:
-        return one_in(8) ? (int64_t)(chance() >> 32) : around(5000 * (int64_t)(1 + below(65540)));
-    case 6:
-    case 7:
-        return some_angle(2000, 360000);
-    case 8:
-        return some_angle(1000, 180000);
-    case 9:
-        return some_angle(1000, 360000);
-    case 10:
-        return some_speed(UINT32_MAX);
-    case 11:
-        return one_in(100) ? INT32_MIN : signed_at_random(some_speed(INT32_MAX));
-    case 12:
-        return one_in(8) ? around(254000) : one_in(8) ? (int64_t)(chance() >> 32) : around(1000 * (int64_t)(1 + below(260)));
-    default:
-        return some_confidence();
-    }
-}
-
-// The largest code of each field's octets, and a few numbers beyond.
-static int64_t some_code_number(uint32_t field)
-{
-    static const int64_t most[] = {8388607, 8388607, 127, 127, 32767, 65535, 179, 179, 179, 359, 65535, 255, 255, 100};
-    int64_t limit = most[field];
-    if (one_in(8)) {
-        int64_t odd[] = {0, 1, limit - 1, limit, limit + 1, limit + 2, 2 * limit + 1, 255, 256, 65535, 65536, 16777215, 16777216, 4294967295,
-            4294967296, INT64_MAX, -1, -limit, -limit - 1, -limit - 2, -2147483648, INT64_MIN};
-        return PICK(odd);
-    }
-    int64_t code = (int64_t)(chance() % (uint64_t)(limit + 1));
-    return field == 1 && one_in(2) ? -1 - code : code;
-}
 
 static void some_line(void)
 {

@@ -1,0 +1,49 @@
+//! Requests for one point.
+
+use crate::cells::put_quantity;
+use crate::numbers::*;
+use crate::shapes::{Axes, Place};
+
+pub(crate) const REQUEST: usize = 8;
+
+/// Where each quantity stands among the cells.
+mod ask_at {
+    pub const LATITUDE: usize = 0;
+    pub const ALTITUDE: usize = 2;
+    pub const AXES: usize = 3;
+    pub const ALTITUDE_UNCERTAINTY: usize = 6;
+    pub const CONFIDENCE: usize = 7;
+}
+
+/// A point to be said to a receiver, with what is asked of its uncertainty.
+#[derive(Clone, Copy, Debug, PartialEq, Eq, Hash)]
+pub struct Request {
+    pub place: Place,
+    pub altitude: Option<AltitudeMillimetres>,
+    pub horizontal: Option<Horizontal>,
+    pub altitude_uncertainty: Option<Millimetres>,
+    pub confidence: Option<Percent>,
+}
+
+/// A horizontal uncertainty.
+#[derive(Clone, Copy, Debug, PartialEq, Eq, Hash)]
+pub enum Horizontal {
+    Circle(Millimetres),
+    Ellipse(Axes),
+}
+
+impl Request {
+    pub(crate) fn to_cells(self) -> [i64; REQUEST] {
+        let mut cells = [MISSING; REQUEST];
+        self.place.put(&mut cells, ask_at::LATITUDE);
+        put_quantity(&mut cells, ask_at::ALTITUDE, self.altitude);
+        match self.horizontal {
+            Some(Horizontal::Circle(radius)) => put_quantity(&mut cells, ask_at::AXES, radius),
+            Some(Horizontal::Ellipse(axes)) => axes.put(&mut cells, ask_at::AXES),
+            None => {}
+        }
+        put_quantity(&mut cells, ask_at::ALTITUDE_UNCERTAINTY, self.altitude_uncertainty);
+        put_quantity(&mut cells, ask_at::CONFIDENCE, self.confidence);
+        cells
+    }
+}

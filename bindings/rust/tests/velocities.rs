@@ -1,0 +1,107 @@
+//! Every velocity there and back, against messages worked out by hand from document 01, and what is refused.
+
+use gad::*;
+
+const COURSE: Course = Course { bearing: Millidegrees(300_000), speed: MetresPerHour(90_000) };
+const CODES: CourseCodes = CourseCodes { bearing: BearingCode(300), speed: HorizontalSpeedCode(90) };
+
+fn samples() -> Vec<(Vec<u8>, VelocityCodes, Velocity)> {
+    vec![
+        (vec![0x01, 0x2C, 0x00, 0x5A], VelocityCodes::Horizontal { course: CODES }, Velocity::Horizontal { course: COURSE }),
+        (
+            vec![0x13, 0x2C, 0x00, 0x5A, 0x05],
+            VelocityCodes::WithVertical { course: CODES, vertical: VerticalSpeedCode { down: true, number: 5 } },
+            Velocity::WithVertical { course: COURSE, vertical: VerticalMetresPerHour(-5_000) },
+        ),
+        (
+            vec![0x21, 0x2C, 0x00, 0x5A, 0x03],
+            VelocityCodes::WithUncertainty { course: CODES, uncertainty: UncertaintySpeedCode(3) },
+            Velocity::WithUncertainty { course: COURSE, uncertainty: Some(MetresPerHour(3_000)) },
+        ),
+        (
+            vec![0x33, 0x2C, 0x00, 0x5A, 0x00, 0xFE, 0xFF],
+            VelocityCodes::WithBoth {
+                course: CODES,
+                vertical: VerticalSpeedCode { down: true, number: 0 },
+                uncertainty: UncertaintySpeedCode(254),
+                vertical_uncertainty: UncertaintySpeedCode(255),
+            },
+            Velocity::WithBoth {
+                course: COURSE,
+                vertical: VerticalMetresPerHour(-1),
+                uncertainty: Some(MetresPerHour(254_000)),
+                vertical_uncertainty: None,
+            },
+        ),
+    ]
+}
+
+#[test]
+fn messages_are_read() {
+    for (message, codes, _) in samples() {
+        assert_eq!(read_velocity(&message), Ok(codes));
+    }
+}
+
+#[test]
+fn codes_are_written_and_the_rest_of_the_buffer_is_kept() {
+    for (message, codes, _) in samples() {
+        let mut out = [0xA5; 9];
+        assert_eq!(write_velocity(&codes, &mut out), Ok(message.len()));
+        assert_eq!(out[..message.len()], message);
+        assert!(out[message.len()..].iter().all(|octet| *octet == 0xA5));
+        assert_eq!(write_velocity(&codes, &mut out[..message.len() - 1]), Err(Refusal::BufferTooShort));
+    }
+}
+
+#[test]
+fn codes_are_reported() {
+    for (_, codes, velocity) in samples() {
+        assert_eq!(report_velocity(&codes), Ok(velocity));
+    }
+}
+
+#[test]
+fn quantities_are_coded() {
+    for (_, codes, velocity) in samples() {
+        assert_eq!(code_velocity(&velocity), Ok(codes));
+    }
+}
+
+#[test]
+fn a_message_comes_back_by_way_of_quantities() {
+    for (message, ..) in samples() {
+        let velocity = report_velocity(&read_velocity(&message).unwrap()).unwrap();
+        let mut out = [0; 7];
+        let length = write_velocity(&code_velocity(&velocity).unwrap(), &mut out).unwrap();
+        assert_eq!(out[..length], message);
+    }
+}
+
+#[test]
+fn unreadable_messages_are_refused() {
+    assert_eq!(read_velocity(&[]), Err(Refusal::NoOctets));
+    assert_eq!(read_velocity(&[0x40]), Err(Refusal::UnknownType));
+    assert_eq!(read_velocity(&[0x01, 0x68, 0x00]), Err(Refusal::WrongLength));
+    assert_eq!(read_velocity(&[0x01, 0x68, 0x00, 0x00]), Err(Refusal::AngleCode));
+}
+
+#[test]
+fn codes_outside_their_fields_are_refused() {
+    let turned = VelocityCodes::Horizontal { course: CourseCodes { bearing: BearingCode(360), speed: HorizontalSpeedCode(65_536) } };
+    let fast = VelocityCodes::Horizontal { course: CourseCodes { bearing: BearingCode(359), speed: HorizontalSpeedCode(65_536) } };
+    for (codes, refusal) in [(turned, Refusal::AngleCode), (fast, Refusal::OutOfRange)] {
+        assert_eq!(write_velocity(&codes, &mut []), Err(refusal));
+        assert_eq!(report_velocity(&codes), Err(refusal));
+    }
+}
+
+#[test]
+fn quantities_out_of_range_are_refused() {
+    let uncertain = |bearing| Velocity::WithUncertainty {
+        course: Course { bearing: Millidegrees(bearing), ..COURSE },
+        uncertainty: Some(MetresPerHour(254_001)),
+    };
+    assert_eq!(code_velocity(&uncertain(360_000)), Err(Refusal::OutOfRange));
+    assert_eq!(code_velocity(&uncertain(359_999)), Err(Refusal::UncertaintyTooLarge));
+}

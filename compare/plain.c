@@ -1,0 +1,348 @@
+#include "plain.h"
+
+#include "coder.h"
+
+#include <string.h>
+
+// The coder's records are the interface's cells in the same order, so an array of codes is taken as a record where it stands.
+_Static_assert(sizeof(struct shape) == GAD_SHAPE_CODES * sizeof(uint32_t), "61 cells");
+_Static_assert(offsetof(struct shape, centre.longitude) == GAD_CODE_LONGITUDE * sizeof(uint32_t), "the start");
+_Static_assert(offsetof(struct shape, confidence) == GAD_CODE_CONFIDENCE * sizeof(uint32_t), "the fields");
+_Static_assert(offsetof(struct shape, points) == GAD_CODE_POINTS * sizeof(uint32_t), "the points");
+_Static_assert(sizeof(struct velocity) == GAD_VELOCITY_CODES * sizeof(uint32_t), "7 cells");
+_Static_assert(offsetof(struct velocity, down) == GAD_VELOCITY_CODE_DOWN * sizeof(uint32_t), "the direction");
+
+static int64_t refused(enum answer answer)
+{
+    return -(int64_t)answer;
+}
+
+// The end of a call that fills cells: a short array is refused last, and only an answer of 0 reaches the caller's cells.
+static inline int64_t hand_back(enum answer answer, void *to, size_t room, const void *from, size_t cells, size_t octets)
+{
+    if (answer != DONE)
+        return refused(answer);
+    if (room < cells)
+        return refused(SHORT_BUFFER);
+    memcpy(to, from, octets);
+    return (int64_t)cells;
+}
+
+// ---- Octets to codes and back ----
+
+int64_t plain_read_shape(uint32_t *codes, size_t code_cells, const uint8_t *message, size_t octets)
+{
+    struct shape shape;
+    enum answer answer = read_shape(message, octets, &shape);
+    return hand_back(answer, codes, code_cells, &shape, GAD_SHAPE_CODES, sizeof shape);
+}
+
+int64_t plain_read_velocity(uint32_t *codes, size_t code_cells, const uint8_t *message, size_t octets)
+{
+    struct velocity velocity;
+    enum answer answer = read_velocity(message, octets, &velocity);
+    return hand_back(answer, codes, code_cells, &velocity, GAD_VELOCITY_CODES, sizeof velocity);
+}
+
+int64_t plain_write_shape(uint8_t *out, size_t room, const uint32_t *codes, size_t code_cells)
+{
+    if (code_cells < GAD_SHAPE_CODES)
+        return refused(WRONG_LENGTH);
+    size_t length;
+    enum answer answer = write_shape((const struct shape *)codes, out, room, &length);
+    return answer == DONE ? (int64_t)length : refused(answer);
+}
+
+int64_t plain_write_velocity(uint8_t *out, size_t room, const uint32_t *codes, size_t code_cells)
+{
+    if (code_cells < GAD_VELOCITY_CODES)
+        return refused(WRONG_LENGTH);
+    size_t length;
+    enum answer answer = write_velocity((const struct velocity *)codes, out, room, &length);
+    return answer == DONE ? (int64_t)length : refused(answer);
+}
+
+// ---- Codes to quantities ----
+
+static inline int64_t optional_cell(struct optional optional)
+{
+    return optional.given ? (int64_t)optional.value : GAD_MISSING;
+}
+
+static void put_shape_quantities(const struct shape_quantities *q, int64_t *cells)
+{
+    cells[GAD_TYPE] = q->type;
+    cells[GAD_COUNT] = q->count;
+    cells[GAD_LATITUDE] = q->centre.latitude;
+    cells[GAD_LONGITUDE] = q->centre.longitude;
+    cells[GAD_ALTITUDE] = q->altitude;
+    cells[GAD_UNCERTAINTY] = q->uncertainty;
+    cells[GAD_SEMI_MAJOR] = q->semi_major;
+    cells[GAD_SEMI_MINOR] = q->semi_minor;
+    cells[GAD_ORIENTATION] = q->orientation;
+    cells[GAD_ALTITUDE_UNCERTAINTY] = q->altitude_uncertainty;
+    cells[GAD_INNER_RADIUS] = q->inner_radius;
+    cells[GAD_OFFSET] = q->offset;
+    cells[GAD_INCLUDED] = q->included;
+    cells[GAD_CONFIDENCE] = optional_cell(q->confidence);
+    memcpy(cells + GAD_POINTS, q->points, sizeof q->points);
+}
+
+_Static_assert(sizeof(struct place[MOST_POINTS]) == (GAD_SHAPE_QUANTITIES - GAD_POINTS) * sizeof(int64_t), "fifteen pairs");
+
+int64_t plain_report_shape(int64_t *quantities, size_t quantity_cells, const uint32_t *codes, size_t code_cells)
+{
+    if (code_cells < GAD_SHAPE_CODES)
+        return refused(WRONG_LENGTH);
+    struct shape_quantities reported;
+    enum answer answer = report_shape((const struct shape *)codes, &reported);
+    if (answer != DONE)
+        return refused(answer);
+    if (quantity_cells < GAD_SHAPE_QUANTITIES)
+        return refused(SHORT_BUFFER);
+    put_shape_quantities(&reported, quantities);
+    return GAD_SHAPE_QUANTITIES;
+}
+
+int64_t plain_report_velocity(int64_t *quantities, size_t quantity_cells, const uint32_t *codes, size_t code_cells)
+{
+    if (code_cells < GAD_VELOCITY_CODES)
+        return refused(WRONG_LENGTH);
+    struct velocity_quantities q;
+    enum answer answer = report_velocity((const struct velocity *)codes, &q);
+    int64_t cells[GAD_VELOCITY_QUANTITIES] = {q.type, q.bearing, q.horizontal_speed, q.vertical_speed};
+    if (q.type == HORIZONTAL_UNCERTAIN || q.type == HORIZONTAL_VERTICAL_UNCERTAIN)
+        cells[GAD_VELOCITY_UNCERTAINTY] = optional_cell(q.horizontal_uncertainty);
+    if (q.type == HORIZONTAL_VERTICAL_UNCERTAIN)
+        cells[GAD_VELOCITY_VERTICAL_UNCERTAINTY] = optional_cell(q.vertical_uncertainty);
+    return hand_back(answer, quantities, quantity_cells, cells, GAD_VELOCITY_QUANTITIES, sizeof cells);
+}
+
+// ---- Quantities to codes ----
+
+// Cells taken in the widths in which quantities arrive; `outside` is set by a cell that its width can't hold.
+static inline uint32_t take_unsigned(int64_t cell, int *outside)
+{
+    *outside |= cell < 0 || cell > UINT32_MAX;
+    return (uint32_t)cell;
+}
+
+static inline int32_t take_signed(int64_t cell, int *outside)
+{
+    *outside |= cell < INT32_MIN || cell > INT32_MAX;
+    return (int32_t)cell;
+}
+
+static inline struct optional take_optional(int64_t cell, int *outside)
+{
+    return cell == GAD_MISSING ? (struct optional){0, 0} : (struct optional){1, take_unsigned(cell, outside)};
+}
+
+// A type or a count that 32 bits can't hold is as good as the largest that they can.
+static inline uint32_t take_number(int64_t cell)
+{
+    return cell < 0 || cell > UINT32_MAX ? UINT32_MAX : (uint32_t)cell;
+}
+
+static void take_shape_quantities(const int64_t *cells, struct shape_quantities *q)
+{
+    int outside = 0;
+    q->type = take_number(cells[GAD_TYPE]);
+    q->count = take_number(cells[GAD_COUNT]);
+    q->centre = (struct place){cells[GAD_LATITUDE], cells[GAD_LONGITUDE]};
+    q->altitude = take_signed(cells[GAD_ALTITUDE], &outside);
+    q->uncertainty = take_unsigned(cells[GAD_UNCERTAINTY], &outside);
+    q->semi_major = take_unsigned(cells[GAD_SEMI_MAJOR], &outside);
+    q->semi_minor = take_unsigned(cells[GAD_SEMI_MINOR], &outside);
+    q->orientation = take_unsigned(cells[GAD_ORIENTATION], &outside);
+    q->altitude_uncertainty = take_unsigned(cells[GAD_ALTITUDE_UNCERTAINTY], &outside);
+    q->inner_radius = take_unsigned(cells[GAD_INNER_RADIUS], &outside);
+    q->offset = take_unsigned(cells[GAD_OFFSET], &outside);
+    q->included = take_unsigned(cells[GAD_INCLUDED], &outside);
+    q->confidence = take_optional(cells[GAD_CONFIDENCE], &outside);
+    memcpy(q->points, cells + GAD_POINTS, sizeof q->points);
+    if (outside) // a latitude that no type takes: 7 in its place after 2 and 4
+        q->centre.latitude = INT64_MAX;
+}
+
+int64_t plain_code_shape(uint32_t *codes, size_t code_cells, const int64_t *quantities, size_t quantity_cells)
+{
+    if (quantity_cells < GAD_SHAPE_QUANTITIES)
+        return refused(WRONG_LENGTH);
+    struct shape_quantities q;
+    struct shape shape;
+    take_shape_quantities(quantities, &q);
+    enum answer answer = code_shape(&q, &shape);
+    return hand_back(answer, codes, code_cells, &shape, GAD_SHAPE_CODES, sizeof shape);
+}
+
+// The coder wants an unused uncertainty speed missing; in the array it is 0.
+static struct optional take_speed(int64_t cell, int used, int *outside)
+{
+    if (used)
+        return take_optional(cell, outside);
+    *outside |= cell != 0;
+    return (struct optional){0, 0};
+}
+
+int64_t plain_code_velocity(uint32_t *codes, size_t code_cells, const int64_t *quantities, size_t quantity_cells)
+{
+    if (quantity_cells < GAD_VELOCITY_QUANTITIES)
+        return refused(WRONG_LENGTH);
+    int outside = 0;
+    uint32_t type = take_number(quantities[GAD_VELOCITY_TYPE]);
+    int uncertain = type == HORIZONTAL_UNCERTAIN || type == HORIZONTAL_VERTICAL_UNCERTAIN;
+    struct velocity_quantities q = {
+        .type = type,
+        .bearing = take_unsigned(quantities[GAD_VELOCITY_BEARING], &outside),
+        .horizontal_speed = take_unsigned(quantities[GAD_VELOCITY_HORIZONTAL_SPEED], &outside),
+        .vertical_speed = take_signed(quantities[GAD_VELOCITY_VERTICAL_SPEED], &outside),
+        .horizontal_uncertainty = take_speed(quantities[GAD_VELOCITY_UNCERTAINTY], uncertain, &outside),
+        .vertical_uncertainty
+        = take_speed(quantities[GAD_VELOCITY_VERTICAL_UNCERTAINTY], type == HORIZONTAL_VERTICAL_UNCERTAIN, &outside),
+    };
+    if (outside)
+        q.bearing = UINT32_MAX;
+    struct velocity velocity;
+    enum answer answer = code_velocity(&q, &velocity);
+    return hand_back(answer, codes, code_cells, &velocity, GAD_VELOCITY_CODES, sizeof velocity);
+}
+
+// ---- The choice of shape ----
+
+static enum answer take_request(const int64_t *cells, struct request *request)
+{
+    int outside = 0;
+    struct optional major = take_optional(cells[GAD_ASK_SEMI_MAJOR], &outside);
+    struct optional minor = take_optional(cells[GAD_ASK_SEMI_MINOR], &outside);
+    struct optional orientation = take_optional(cells[GAD_ASK_ORIENTATION], &outside);
+    *request = (struct request){
+        .centre = {cells[GAD_ASK_LATITUDE], cells[GAD_ASK_LONGITUDE]},
+        .has_altitude = cells[GAD_ASK_ALTITUDE] != GAD_MISSING,
+        .horizontal = minor.given ? ASKED_ELLIPSE : major.given ? ASKED_CIRCLE : NOT_ASKED,
+        .semi_major = major.value,
+        .semi_minor = minor.value,
+        .orientation = orientation.value,
+        .altitude_uncertainty = take_optional(cells[GAD_ASK_ALTITUDE_UNCERTAINTY], &outside),
+        .confidence = take_optional(cells[GAD_ASK_CONFIDENCE], &outside),
+    };
+    if (request->has_altitude)
+        request->altitude = take_signed(cells[GAD_ASK_ALTITUDE], &outside);
+    if (minor.given != orientation.given || (minor.given && !major.given))
+        outside = 1;
+    return outside ? OUT_OF_RANGE : DONE;
+}
+
+int64_t plain_choose(uint8_t *out, size_t room, const int64_t *request, size_t request_cells, uint16_t list)
+{
+    if (request_cells < GAD_REQUEST)
+        return refused(WRONG_LENGTH);
+    struct request asked;
+    enum answer answer = take_request(request, &asked);
+    size_t length = 0;
+    if (answer == DONE)
+        answer = choose(&asked, list, out, room, &length);
+    return answer == DONE ? (int64_t)length : refused(answer);
+}
+
+// ---- Single codes and quantities ----
+
+// The fields whose code is one number and whose quantity is unsigned and always given.
+static const struct simple_field {
+    enum answer (*code)(uint32_t quantity, uint32_t *code);
+    enum answer (*report)(int64_t code, uint32_t *quantity);
+} simple_fields[GAD_FIELDS] = {
+    [GAD_FIELD_UNCERTAINTY] = {code_uncertainty, report_uncertainty},
+    [GAD_FIELD_ALTITUDE_UNCERTAINTY] = {code_altitude_uncertainty, report_altitude_uncertainty},
+    [GAD_FIELD_INNER_RADIUS] = {code_inner_radius, report_inner_radius},
+    [GAD_FIELD_OFFSET] = {code_offset, report_offset},
+    [GAD_FIELD_INCLUDED] = {code_included, report_included},
+    [GAD_FIELD_ORIENTATION] = {code_orientation, report_orientation},
+    [GAD_FIELD_BEARING] = {code_bearing, report_bearing},
+    [GAD_FIELD_HORIZONTAL_SPEED] = {code_horizontal_speed, report_horizontal_speed},
+};
+
+static size_t field_cells(uint8_t field)
+{
+    return field == GAD_FIELD_LATITUDE || field == GAD_FIELD_ALTITUDE || field == GAD_FIELD_VERTICAL_SPEED ? 2 : 1;
+}
+
+static enum answer code_longitude_cell(int64_t quantity, uint32_t *cell)
+{
+    int32_t code = 0;
+    enum answer answer = code_longitude(quantity, &code);
+    *cell = (uint32_t)code;
+    return answer;
+}
+
+static enum answer code_field(uint8_t field, int64_t quantity, uint32_t cells[2])
+{
+    int outside = 0;
+    if (field == GAD_FIELD_LATITUDE)
+        return code_latitude(quantity, &cells[0], &cells[1]);
+    if (field == GAD_FIELD_LONGITUDE)
+        return code_longitude_cell(quantity, cells);
+    if (field == GAD_FIELD_ALTITUDE || field == GAD_FIELD_VERTICAL_SPEED) {
+        int32_t narrow = take_signed(quantity, &outside);
+        if (outside)
+            return OUT_OF_RANGE;
+        return (field == GAD_FIELD_ALTITUDE ? code_altitude : code_vertical_speed)(narrow, &cells[0], &cells[1]);
+    }
+    if (field == GAD_FIELD_UNCERTAINTY_SPEED || field == GAD_FIELD_CONFIDENCE) {
+        struct optional optional = take_optional(quantity, &outside);
+        if (outside)
+            return OUT_OF_RANGE;
+        return (field == GAD_FIELD_CONFIDENCE ? code_confidence : code_uncertainty_speed)(optional, cells);
+    }
+    uint32_t size = take_unsigned(quantity, &outside);
+    return outside ? OUT_OF_RANGE : simple_fields[field].code(size, cells);
+}
+
+int64_t plain_code(uint32_t *code, size_t code_cells, uint8_t field, int64_t quantity)
+{
+    if (field >= GAD_FIELDS)
+        return refused(UNKNOWN_TYPE);
+    uint32_t cells[2] = {0};
+    size_t count = field_cells(field);
+    enum answer answer = code_field(field, quantity, cells);
+    return hand_back(answer, code, code_cells, cells, count, count * sizeof(uint32_t));
+}
+
+static enum answer report_field(uint8_t field, const uint32_t *code, int64_t *quantity)
+{
+    enum answer answer;
+    int32_t narrow = 0;
+    uint32_t size = 0;
+    struct optional optional = {0, 0};
+    switch (field) {
+    case GAD_FIELD_LATITUDE:
+        return report_latitude(code[0], code[1], quantity);
+    case GAD_FIELD_LONGITUDE:
+        return report_longitude((int32_t)code[0], quantity);
+    case GAD_FIELD_ALTITUDE:
+    case GAD_FIELD_VERTICAL_SPEED:
+        answer = (field == GAD_FIELD_ALTITUDE ? report_altitude : report_vertical_speed)(code[0], code[1], &narrow);
+        *quantity = narrow;
+        return answer;
+    case GAD_FIELD_UNCERTAINTY_SPEED:
+    case GAD_FIELD_CONFIDENCE:
+        answer = (field == GAD_FIELD_CONFIDENCE ? report_confidence : report_uncertainty_speed)(code[0], &optional);
+        *quantity = optional_cell(optional);
+        return answer;
+    default:
+        answer = simple_fields[field].report(code[0], &size);
+        *quantity = size;
+        return answer;
+    }
+}
+
+int64_t plain_report(int64_t *quantity, size_t quantity_cells, uint8_t field, const uint32_t *code, size_t code_cells)
+{
+    if (field >= GAD_FIELDS)
+        return refused(UNKNOWN_TYPE);
+    if (code_cells < field_cells(field))
+        return refused(WRONG_LENGTH);
+    int64_t cell = 0;
+    enum answer answer = report_field(field, code, &cell);
+    return hand_back(answer, quantity, quantity_cells, &cell, 1, sizeof cell);
+}
