@@ -21,13 +21,27 @@ blank-shape-requires : tie.Need-blank-shape-requires
 blank-shape-requires c κs = search needs
 
 returns : tie.Need-returns
-returns c = misfit-codes (c .before .before .before .before .before .before .args .given .now) _ (c .before .before .form .result) (c .before .else-out-of-range .ensures) (c .blank-shape .ensures) (rw (c .before .before .before .before .before .shape-quantities-in .ensures) at (c .before .before .form .ensures)) (refuted (c .before .before .before .before .shape-arrives .result) (c .before .before .before .if1 .taken) (c .before .before .before .before .shape-arrives .ensures))
+returns c =
+    let shape-quantities-in = c .before .before .before .before .before .shape-quantities-in in
+    let given = c .before .before .before .before .before .before .args in
+    let shape-arrives = c .before .before .before .before .shape-arrives in
+    let if1 = c .before .before .before .if1 in
+    let else-out-of-range = c .before .else-out-of-range in
+    let form = c .before .before .form in
+    let blank-shape = c .blank-shape in
+    misfit-codes (given .given .now) _ (form .result) (else-out-of-range .ensures) (blank-shape .ensures) (rw (shape-quantities-in .ensures) at (form .ensures)) (refuted (shape-arrives .result) (if1 .taken) (shape-arrives .ensures))
 
 code-shape-requires : tie.Need-code-shape-requires
 code-shape-requires c κs = search needs
 
 returns-2 : tie.Need-returns-2
-returns-2 c = arrived-codes (c .before .before .before .before .args .given .now) (c .code-shape .result) (shown (c .before .before .shape-arrives .result) (c .before .if1 .left) (c .before .before .shape-arrives .ensures)) (rw (c .before .before .before .shape-quantities-in .ensures) at (c .code-shape .ensures))
+returns-2 c =
+    let shape-quantities-in = c .before .before .before .shape-quantities-in in
+    let given = c .before .before .before .before .args in
+    let shape-arrives = c .before .before .shape-arrives in
+    let if1 = c .before .if1 in
+    let code-shape = c .code-shape in
+    arrived-codes (given .given .now) (code-shape .result) (shown (shape-arrives .result) (if1 .left) (shape-arrives .ensures)) (rw (shape-quantities-in .ensures) at (code-shape .ensures))
 
 pub coded-in-spec : {M : Type 1} → statement M
 coded-in-spec =

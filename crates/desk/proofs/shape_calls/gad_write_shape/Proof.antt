@@ -2,7 +2,9 @@
 use mir.Syntax.{w64}
 use mir.Facts.{toZ-ofZ}
 use mathlib.Core.Path.{refl}
+use Prim.Native.Nat.{_≤_}
 use native.Mathlib.Omega.{arith}
+use lib.ListN.{length}
 use Rattle.cells.specs.Answers.{too-short, long-enough}
 use Rattle.ground.proofs.AnswerLaws.{shown, refuted}
 use Rattle.alike.proofs.ShapeLaws.{held-writes, held-misfit}
@@ -33,7 +35,15 @@ answer-requires-2 : tie.Need-answer-requires-2
 answer-requires-2 c κs = search needs
 
 returns-2 : tie.Need-returns-2
-returns-2 c = rw (toZ-ofZ {w = w64} {z = c .before .answer2 .result .0} (search needs)) (long-enough (omega arith) (misfit-told (c .before .before .before .shape-outcome .result) (held-misfit (c .before .before .before .before .before .before .before .before .before .before .args .codes .now) (refuted (c .before .before .before .before .before .shape-is-whole .result) (c .before .before .before .before .if2 .taken) (c .before .before .before .before .before .shape-is-whole .ensures)) (c .before .before .before .shape-outcome .result) _ (rw (c .before .before .before .before .before .before .shape-in .ensures) at (c .before .before .before .shape-outcome .ensures))) (rw (c .before .before .else-out-of-range .ensures) at (c .before .answer2 .ensures))))
+returns-2 c =
+    let given = c .before .before .before .before .before .before .before .before .before .before .args in
+    let shape-in = c .before .before .before .before .before .before .shape-in in
+    let shape-is-whole = c .before .before .before .before .before .shape-is-whole in
+    let shape-outcome = c .before .before .before .shape-outcome in
+    let if2 = c .before .before .before .before .if2 in
+    let else-out-of-range = c .before .before .else-out-of-range in
+    let answer2 = c .before .answer2 in
+    rw (toZ-ofZ {w = w64} {z = answer2 .result .0} (search needs)) (long-enough (omega arith) (misfit-told (shape-outcome .result) (held-misfit (given .codes .now) (refuted (shape-is-whole .result) (if2 .taken) (shape-is-whole .ensures)) (shape-outcome .result) _ (rw (shape-in .ensures) at (shape-outcome .ensures))) (rw (else-out-of-range .ensures) at (answer2 .ensures))))
 
 write-shape-requires : tie.Need-write-shape-requires
 write-shape-requires c κs = search needs
@@ -45,7 +55,15 @@ same-length : tie.Need-same-length
 same-length c = search needs
 
 returns-3 : tie.Need-returns-3
-returns-3 c = rw (toZ-ofZ {w = w64} {z = c .before .answer3 .result .0} (search needs)) (long-enough (omega arith) (record { written = c .before .before .before .before .write-shape .result; promise = held-writes (c .before .before .before .before .before .before .before .before .before .before .before .before .args .codes .now) (shown (c .before .before .before .before .before .before .before .shape-is-whole .result) (c .before .before .before .before .before .before .if2 .left) (c .before .before .before .before .before .before .before .shape-is-whole .ensures)) _ _ (c .before .before .before .before .write-shape .result) (rw (c .before .before .before .before .before .before .before .before .shape-in .ensures) at (c .before .before .before .before .write-shape .ensures)); told = c .before .answer3 .ensures }))
+returns-3 c =
+    let long : 61 ≤ length (c .before .before .before .before .before .before .before .before .before .before .before .before .args .codes .now) = omega arith in
+    let given = c .before .before .before .before .before .before .before .before .before .before .before .before .args in
+    let shape-in = c .before .before .before .before .before .before .before .before .shape-in in
+    let shape-is-whole = c .before .before .before .before .before .before .before .shape-is-whole in
+    let if2 = c .before .before .before .before .before .before .if2 in
+    let write-shape = c .before .before .before .before .write-shape in
+    let answer3 = c .before .answer3 in
+    rw (toZ-ofZ {w = w64} {z = answer3 .result .0} (search needs)) (long-enough long (record { written = write-shape .result; promise = held-writes (given .codes .now) (shown (shape-is-whole .result) (if2 .left) (shape-is-whole .ensures)) _ _ (write-shape .result) (rw (shape-in .ensures) at (write-shape .ensures)); told = answer3 .ensures }))
 
 pub gad-write-shape-spec : {M : Type 1} → statement M
 gad-write-shape-spec =

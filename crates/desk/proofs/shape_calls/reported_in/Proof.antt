@@ -22,13 +22,27 @@ no-shape-requires : tie.Need-no-shape-requires
 no-shape-requires c κs = search needs
 
 returns : tie.Need-returns
-returns c = misfit-reports (c .before .before .before .before .before .before .before .args .codes .now) _ (c .before .before .shape-outcome .result) (c .before .else-out-of-range .ensures) (c .no-shape .ensures) (held-misfit (c .before .before .before .before .before .before .before .args .codes .now) (refuted (c .before .before .before .before .shape-is-whole .result) (c .before .before .before .if1 .taken) (c .before .before .before .before .shape-is-whole .ensures)) (c .before .before .shape-outcome .result) _ (rw (c .before .before .before .before .before .shape-in .ensures) at (c .before .before .shape-outcome .ensures)))
+returns c =
+    let given = c .before .before .before .before .before .before .before .args in
+    let shape-in = c .before .before .before .before .before .shape-in in
+    let shape-is-whole = c .before .before .before .before .shape-is-whole in
+    let shape-outcome = c .before .before .shape-outcome in
+    let if1 = c .before .before .before .if1 in
+    let else-out-of-range = c .before .else-out-of-range in
+    let no-shape = c .no-shape in
+    misfit-reports (given .codes .now) _ (shape-outcome .result) (else-out-of-range .ensures) (no-shape .ensures) (held-misfit (given .codes .now) (refuted (shape-is-whole .result) (if1 .taken) (shape-is-whole .ensures)) (shape-outcome .result) _ (rw (shape-in .ensures) at (shape-outcome .ensures)))
 
 report-shape-requires : tie.Need-report-shape-requires
 report-shape-requires c κs = search needs
 
 returns-2 : tie.Need-returns-2
-returns-2 c = held-reports (c .before .before .before .before .before .args .codes .now) (c .report-shape .result) (shown (c .before .before .shape-is-whole .result) (c .before .if1 .left) (c .before .before .shape-is-whole .ensures)) (rw (c .before .before .before .shape-in .ensures) at (c .report-shape .ensures))
+returns-2 c =
+    let given = c .before .before .before .before .before .args in
+    let shape-in = c .before .before .before .shape-in in
+    let shape-is-whole = c .before .before .shape-is-whole in
+    let report-shape = c .report-shape in
+    let if1 = c .before .if1 in
+    held-reports (given .codes .now) (report-shape .result) (shown (shape-is-whole .result) (if1 .left) (shape-is-whole .ensures)) (rw (shape-in .ensures) at (report-shape .ensures))
 
 pub reported-in-spec : {M : Type 1} → statement M
 reported-in-spec =

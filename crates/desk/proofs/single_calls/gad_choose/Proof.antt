@@ -29,7 +29,11 @@ answer-requires-2 : tie.Need-answer-requires-2
 answer-requires-2 c κs = search needs
 
 returns-2 : tie.Need-returns-2
-returns-2 c = rw (toZ-ofZ {w = w64} {z = c .before .answer2 .result .0} (search needs)) (long-enough (omega arith) (no-request (rw (c .before .before .enum-told .given .1) at (c .before .before .before .before .request-in .ensures)) (c .before .answer2 .ensures) refl))
+returns-2 c =
+    let request-in = c .before .before .before .before .request-in in
+    let enum-told = c .before .before .enum-told in
+    let answer2 = c .before .answer2 in
+    rw (toZ-ofZ {w = w64} {z = answer2 .result .0} (search needs)) (long-enough (omega arith) (no-request (rw (enum-told .given .1) at (request-in .ensures)) (answer2 .ensures) refl))
 
 choose-requires : tie.Need-choose-requires
 choose-requires c κs = search needs
@@ -41,7 +45,12 @@ same-length : tie.Need-same-length
 same-length c = search needs
 
 returns-3 : tie.Need-returns-3
-returns-3 c = rw (toZ-ofZ {w = w64} {z = c .before .answer3 .result .0} (search needs)) (long-enough (omega arith) (chosen (c .before .before .before .before .choose .result) (rw (c .before .before .before .before .before .before .before .asked .given .1) at (c .before .before .before .before .before .before .before .before .before .request-in .ensures)) (c .before .before .before .before .choose .ensures) (c .before .answer3 .ensures)))
+returns-3 c =
+    let request-in = c .before .before .before .before .before .before .before .before .before .request-in in
+    let asked = c .before .before .before .before .before .before .before .asked in
+    let choose = c .before .before .before .before .choose in
+    let answer3 = c .before .answer3 in
+    rw (toZ-ofZ {w = w64} {z = answer3 .result .0} (search needs)) (long-enough (omega arith) (chosen (choose .result) (rw (asked .given .1) at (request-in .ensures)) (choose .ensures) (answer3 .ensures)))
 
 pub gad-choose-spec : {M : Type 1} → statement M
 gad-choose-spec =

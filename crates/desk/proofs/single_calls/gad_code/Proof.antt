@@ -15,7 +15,11 @@ same-length : tie.Need-same-length
 same-length c = search needs
 
 returns : tie.Need-returns
-returns c = rw (toZ-ofZ {w = w64} {z = c .before .before .before .put-code .result .0} (search needs)) (record { told = c .before .before .before .before .coded .result; promise = rw (toZ-ofZ {w = w64} {z = c .before .before .before .before .before .before .before .args .quantity} (search needs)) at (c .before .before .before .before .coded .ensures); put = c .before .before .before .put-code .ensures })
+returns c =
+    let given = c .before .before .before .before .before .before .before .args in
+    let coded = c .before .before .before .before .coded in
+    let put-code = c .before .before .before .put-code in
+    rw (toZ-ofZ {w = w64} {z = put-code .result .0} (search needs)) (record { told = coded .result; promise = rw (toZ-ofZ {w = w64} {z = given .quantity} (search needs)) at (coded .ensures); put = put-code .ensures })
 
 pub gad-code-spec : {M : Type 1} → statement M
 gad-code-spec = tie.close (tie.spec coded-requires put-code-requires same-length returns)

@@ -21,13 +21,27 @@ blank-velocity-requires : tie.Need-blank-velocity-requires
 blank-velocity-requires c κs = search needs
 
 returns : tie.Need-returns
-returns c = misfit-velocity-codes (c .before .before .before .before .before .before .args .given .now) _ (c .before .before .kind-outcome .result) (c .before .else-out-of-range .ensures) (c .blank-velocity .ensures) (rw (c .before .before .before .before .before .velocity-quantities-in .ensures) at (c .before .before .kind-outcome .ensures)) (refuted (c .before .before .before .before .velocity-arrives .result) (c .before .before .before .if1 .taken) (c .before .before .before .before .velocity-arrives .ensures))
+returns c =
+    let velocity-quantities-in = c .before .before .before .before .before .velocity-quantities-in in
+    let given = c .before .before .before .before .before .before .args in
+    let velocity-arrives = c .before .before .before .before .velocity-arrives in
+    let kind-outcome = c .before .before .kind-outcome in
+    let if1 = c .before .before .before .if1 in
+    let else-out-of-range = c .before .else-out-of-range in
+    let blank-velocity = c .blank-velocity in
+    misfit-velocity-codes (given .given .now) _ (kind-outcome .result) (else-out-of-range .ensures) (blank-velocity .ensures) (rw (velocity-quantities-in .ensures) at (kind-outcome .ensures)) (refuted (velocity-arrives .result) (if1 .taken) (velocity-arrives .ensures))
 
 code-velocity-requires : tie.Need-code-velocity-requires
 code-velocity-requires c κs = search needs
 
 returns-2 : tie.Need-returns-2
-returns-2 c = arrived-velocity-codes (c .before .before .before .before .args .given .now) (c .code-velocity .result) (shown (c .before .before .velocity-arrives .result) (c .before .if1 .left) (c .before .before .velocity-arrives .ensures)) (rw (c .before .before .before .velocity-quantities-in .ensures) at (c .code-velocity .ensures))
+returns-2 c =
+    let velocity-quantities-in = c .before .before .before .velocity-quantities-in in
+    let given = c .before .before .before .before .args in
+    let velocity-arrives = c .before .before .velocity-arrives in
+    let code-velocity = c .code-velocity in
+    let if1 = c .before .if1 in
+    arrived-velocity-codes (given .given .now) (code-velocity .result) (shown (velocity-arrives .result) (if1 .left) (velocity-arrives .ensures)) (rw (velocity-quantities-in .ensures) at (code-velocity .ensures))
 
 pub coded-in-spec : {M : Type 1} → statement M
 coded-in-spec =

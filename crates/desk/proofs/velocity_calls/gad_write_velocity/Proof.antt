@@ -2,7 +2,9 @@
 use mir.Syntax.{w64}
 use mir.Facts.{toZ-ofZ}
 use mathlib.Core.Path.{refl}
+use Prim.Native.Nat.{_≤_}
 use native.Mathlib.Omega.{arith}
+use lib.ListN.{length}
 use Rattle.cells.specs.Answers.{too-short, long-enough}
 use Rattle.ground.proofs.AnswerLaws.{shown, refuted}
 use Rattle.alike.proofs.VelocityLaws.{held-velocity-writes, held-velocity-misfit}
@@ -33,7 +35,15 @@ answer-requires-2 : tie.Need-answer-requires-2
 answer-requires-2 c κs = search needs
 
 returns-2 : tie.Need-returns-2
-returns-2 c = rw (toZ-ofZ {w = w64} {z = c .before .answer2 .result .0} (search needs)) (long-enough (omega arith) (misfit-told (c .before .before .before .velocity-outcome .result) (held-velocity-misfit (c .before .before .before .before .before .before .before .before .before .before .args .codes .now) (refuted (c .before .before .before .before .before .velocity-is-whole .result) (c .before .before .before .before .if2 .taken) (c .before .before .before .before .before .velocity-is-whole .ensures)) (c .before .before .before .velocity-outcome .result) _ (rw (c .before .before .before .before .before .before .velocity-in .ensures) at (c .before .before .before .velocity-outcome .ensures))) (rw (c .before .before .else-out-of-range .ensures) at (c .before .answer2 .ensures))))
+returns-2 c =
+    let given = c .before .before .before .before .before .before .before .before .before .before .args in
+    let velocity-in = c .before .before .before .before .before .before .velocity-in in
+    let velocity-is-whole = c .before .before .before .before .before .velocity-is-whole in
+    let velocity-outcome = c .before .before .before .velocity-outcome in
+    let if2 = c .before .before .before .before .if2 in
+    let else-out-of-range = c .before .before .else-out-of-range in
+    let answer2 = c .before .answer2 in
+    rw (toZ-ofZ {w = w64} {z = answer2 .result .0} (search needs)) (long-enough (omega arith) (misfit-told (velocity-outcome .result) (held-velocity-misfit (given .codes .now) (refuted (velocity-is-whole .result) (if2 .taken) (velocity-is-whole .ensures)) (velocity-outcome .result) _ (rw (velocity-in .ensures) at (velocity-outcome .ensures))) (rw (else-out-of-range .ensures) at (answer2 .ensures))))
 
 write-velocity-requires : tie.Need-write-velocity-requires
 write-velocity-requires c κs = search needs
@@ -45,7 +55,15 @@ same-length : tie.Need-same-length
 same-length c = search needs
 
 returns-3 : tie.Need-returns-3
-returns-3 c = rw (toZ-ofZ {w = w64} {z = c .before .answer3 .result .0} (search needs)) (long-enough (omega arith) (record { written = c .before .before .before .before .write-velocity .result; promise = held-velocity-writes (c .before .before .before .before .before .before .before .before .before .before .before .before .args .codes .now) (shown (c .before .before .before .before .before .before .before .velocity-is-whole .result) (c .before .before .before .before .before .before .if2 .left) (c .before .before .before .before .before .before .before .velocity-is-whole .ensures)) _ _ (c .before .before .before .before .write-velocity .result) (rw (c .before .before .before .before .before .before .before .before .velocity-in .ensures) at (c .before .before .before .before .write-velocity .ensures)); told = c .before .answer3 .ensures }))
+returns-3 c =
+    let long : 7 ≤ length (c .before .before .before .before .before .before .before .before .before .before .before .before .args .codes .now) = omega arith in
+    let given = c .before .before .before .before .before .before .before .before .before .before .before .before .args in
+    let velocity-in = c .before .before .before .before .before .before .before .before .velocity-in in
+    let velocity-is-whole = c .before .before .before .before .before .before .before .velocity-is-whole in
+    let if2 = c .before .before .before .before .before .before .if2 in
+    let write-velocity = c .before .before .before .before .write-velocity in
+    let answer3 = c .before .answer3 in
+    rw (toZ-ofZ {w = w64} {z = answer3 .result .0} (search needs)) (long-enough long (record { written = write-velocity .result; promise = held-velocity-writes (given .codes .now) (shown (velocity-is-whole .result) (if2 .left) (velocity-is-whole .ensures)) _ _ (write-velocity .result) (rw (velocity-in .ensures) at (write-velocity .ensures)); told = answer3 .ensures }))
 
 pub gad-write-velocity-spec : {M : Type 1} → statement M
 gad-write-velocity-spec =

@@ -22,13 +22,27 @@ no-velocity-requires : tie.Need-no-velocity-requires
 no-velocity-requires c κs = search needs
 
 returns : tie.Need-returns
-returns c = misfit-velocity-reports (c .before .before .before .before .before .before .before .args .codes .now) _ (c .before .before .velocity-outcome .result) (c .before .else-out-of-range .ensures) (c .no-velocity .ensures) (held-velocity-misfit (c .before .before .before .before .before .before .before .args .codes .now) (refuted (c .before .before .before .before .velocity-is-whole .result) (c .before .before .before .if1 .taken) (c .before .before .before .before .velocity-is-whole .ensures)) (c .before .before .velocity-outcome .result) _ (rw (c .before .before .before .before .before .velocity-in .ensures) at (c .before .before .velocity-outcome .ensures)))
+returns c =
+    let given = c .before .before .before .before .before .before .before .args in
+    let velocity-in = c .before .before .before .before .before .velocity-in in
+    let velocity-is-whole = c .before .before .before .before .velocity-is-whole in
+    let velocity-outcome = c .before .before .velocity-outcome in
+    let if1 = c .before .before .before .if1 in
+    let else-out-of-range = c .before .else-out-of-range in
+    let no-velocity = c .no-velocity in
+    misfit-velocity-reports (given .codes .now) _ (velocity-outcome .result) (else-out-of-range .ensures) (no-velocity .ensures) (held-velocity-misfit (given .codes .now) (refuted (velocity-is-whole .result) (if1 .taken) (velocity-is-whole .ensures)) (velocity-outcome .result) _ (rw (velocity-in .ensures) at (velocity-outcome .ensures)))
 
 report-velocity-requires : tie.Need-report-velocity-requires
 report-velocity-requires c κs = search needs
 
 returns-2 : tie.Need-returns-2
-returns-2 c = held-velocity-reports (c .before .before .before .before .before .args .codes .now) (c .report-velocity .result) (shown (c .before .before .velocity-is-whole .result) (c .before .if1 .left) (c .before .before .velocity-is-whole .ensures)) (rw (c .before .before .before .velocity-in .ensures) at (c .report-velocity .ensures))
+returns-2 c =
+    let given = c .before .before .before .before .before .args in
+    let velocity-in = c .before .before .before .velocity-in in
+    let velocity-is-whole = c .before .before .velocity-is-whole in
+    let report-velocity = c .report-velocity in
+    let if1 = c .before .if1 in
+    held-velocity-reports (given .codes .now) (report-velocity .result) (shown (velocity-is-whole .result) (if1 .left) (velocity-is-whole .ensures)) (rw (velocity-in .ensures) at (report-velocity .ensures))
 
 pub reported-in-spec : {M : Type 1} → statement M
 reported-in-spec =

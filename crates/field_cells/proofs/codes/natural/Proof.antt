@@ -18,7 +18,13 @@ coded-unsigned-requires : tie.Need-coded-unsigned-requires
 coded-unsigned-requires c κs = search needs
 
 returns-2 : tie.Need-returns-2
-returns-2 c = natural-given (c .before .before .before .before .args .field) (c .before .before .before .before .args .quantity .0) (c .coded-unsigned .result) (shown (c .before .before .before .is-natural .result) (c .before .before .if1 .left) (c .before .before .before .is-natural .ensures)) (rw (c .before .natural .ensures) at (c .coded-unsigned .ensures))
+returns-2 c =
+    let given = c .before .before .before .before .args in
+    let is-natural = c .before .before .before .is-natural in
+    let if1 = c .before .before .if1 in
+    let natural = c .before .natural in
+    let coded-unsigned = c .coded-unsigned in
+    natural-given (given .field) (given .quantity .0) (coded-unsigned .result) (shown (is-natural .result) (if1 .left) (is-natural .ensures)) (rw (natural .ensures) at (coded-unsigned .ensures))
 
 pub natural-spec : {M : Type 1} → statement M
 natural-spec =

@@ -25,7 +25,10 @@ same-length : tie.Need-same-length
 same-length c = search needs
 
 returns-2 : tie.Need-returns-2
-returns-2 c = puts-done (omega arith) (c .answer2 .ensures) (rw (toZ-ofZ {w = w64} {z = c .before .before .before .args .quantity .0} (search needs)) (first-stored (c .before .before .before .args .out .now) (c .before .before .before .args .quantity .0) (omega arith)))
+returns-2 c =
+    let given = c .before .before .before .args in
+    let answer2 = c .answer2 in
+    puts-done (omega arith) (answer2 .ensures) (rw (toZ-ofZ {w = w64} {z = given .quantity .0} (search needs)) (first-stored (given .out .now) (given .quantity .0) (omega arith)))
 
 pub put-one-spec : {M : Type 1} → statement M
 put-one-spec =

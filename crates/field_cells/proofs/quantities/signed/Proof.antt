@@ -21,7 +21,10 @@ reported-signed-requires : tie.Need-reported-signed-requires
 reported-signed-requires c κs = search needs
 
 returns-3 : tie.Need-returns-3
-returns-3 c = signed-told (c .before .before .before .before .before .before .args .field) (c .before .before .before .before .before .before .args .code .now) (c .reported-signed .result) (omega arith) (omega arith) (c .reported-signed .ensures)
+returns-3 c =
+    let given = c .before .before .before .before .before .before .args in
+    let reported-signed = c .reported-signed in
+    signed-told (given .field) (given .code .now) (reported-signed .result) (omega arith) (omega arith) (reported-signed .ensures)
 
 pub signed-spec : {M : Type 1} → statement M
 signed-spec =
