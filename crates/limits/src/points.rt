@@ -24,12 +24,11 @@ pub fn within(latitudes: [LatitudeCode; 15], longitudes: [LongitudeCode; 15], n:
 fn point_within(used: bool, latitude: LatitudeCode, longitude: LongitudeCode) -> bool
     ensures { λ r. ⌜ Decides r (PointWithin used latitude longitude) ⌝ }
 {
-    let turn = storing::complement_of(longitude);
     if used {
         if 8388608 <= latitude.1 {
             return false;
         }
-        if 16777216 <= turn {
+        if 16777216 <= storing::complement_of(longitude) {
             return false;
         }
         return true;
@@ -40,7 +39,7 @@ fn point_within(used: bool, latitude: LatitudeCode, longitude: LongitudeCode) ->
     if latitude.1 != 0 {
         return false;
     }
-    if turn != 0 {
+    if longitude.0 != 0 {
         return false;
     }
     true

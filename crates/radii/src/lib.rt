@@ -1,5 +1,6 @@
 // Uncertainty codes and their reported radii: K covers every whole millimetre up to r(K), or h(K) for an altitude
-// (document 01, "Quantities and codes").
+// (document 01, "Quantities and codes"). A table is laid on the stack where it is used, so zero, which is also what a type without the
+// field has, goes without one.
 mod tables;
 
 use ground::AltitudeUncertaintyCode;
@@ -30,6 +31,9 @@ pub fn uncertainty_code(radius: Millimetres) -> UncertaintyCoded
     ensures { λ r. ⌜ CodedUncertainty radius r ⌝ }
 {
     let x = radius.0;
+    if x == 0 {
+        return UncertaintyCoded::Code(UncertaintyCode(0));
+    }
     if RADII[127] < x {
         return UncertaintyCoded::Refused(Refusal::UncertaintyTooLarge);
     }
@@ -43,6 +47,9 @@ pub fn reported_uncertainty(code: UncertaintyCode) -> RadiusReported
     if 127 < radius_k {
         return RadiusReported::Refused(Refusal::OutOfRange);
     }
+    if radius_k == 0 {
+        return RadiusReported::Radius(Millimetres(0));
+    }
     RadiusReported::Radius(Millimetres(RADII[radius_k as usize]))
 }
 
@@ -50,6 +57,9 @@ pub fn altitude_uncertainty_code(height: Millimetres) -> AltitudeUncertaintyCode
     ensures { λ r. ⌜ CodedAltitudeUncertainty height r ⌝ }
 {
     let x = height.0;
+    if x == 0 {
+        return AltitudeUncertaintyCoded::Code(AltitudeUncertaintyCode(0));
+    }
     if HEIGHTS[127] < x {
         return AltitudeUncertaintyCoded::Refused(Refusal::UncertaintyTooLarge);
     }
@@ -64,6 +74,9 @@ pub fn reported_altitude_uncertainty(code: AltitudeUncertaintyCode) -> RadiusRep
     let height_k = code.0;
     if 127 < height_k {
         return RadiusReported::Refused(Refusal::OutOfRange);
+    }
+    if height_k == 0 {
+        return RadiusReported::Radius(Millimetres(0));
     }
     RadiusReported::Radius(Millimetres(HEIGHTS[height_k as usize]))
 }
