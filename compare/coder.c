@@ -147,20 +147,22 @@ enum answer code_longitude(int64_t x, int32_t *code)
     return DONE;
 }
 
+static inline enum answer code_entry(const uint32_t table[128], uint32_t r, uint32_t *code)
+{
+    if (r > table[127])
+        return TOO_UNCERTAIN;
+    *code = least_covering(table, r);
+    return DONE;
+}
+
 enum answer code_uncertainty(uint32_t r, uint32_t *code)
 {
-    if (r > radius_table[127])
-        return TOO_UNCERTAIN;
-    *code = least_covering(radius_table, r);
-    return DONE;
+    return code_entry(radius_table, r, code);
 }
 
 enum answer code_altitude_uncertainty(uint32_t h, uint32_t *code)
 {
-    if (h > height_table[127])
-        return TOO_UNCERTAIN;
-    *code = least_covering(height_table, h);
-    return DONE;
+    return code_entry(height_table, h, code);
 }
 
 enum answer code_altitude(int32_t a, uint32_t *depth, uint32_t *code)
@@ -176,12 +178,17 @@ enum answer code_inner_radius(uint32_t r, uint32_t *code)
     return DONE;
 }
 
+static inline enum answer code_angle(uint32_t a, uint32_t end, uint32_t step, uint32_t *code)
+{
+    if (a >= end)
+        return OUT_OF_RANGE;
+    *code = a / step;
+    return DONE;
+}
+
 enum answer code_offset(uint32_t a, uint32_t *code)
 {
-    if (a >= 360000)
-        return OUT_OF_RANGE;
-    *code = a / 2000;
-    return DONE;
+    return code_angle(a, 360000, 2000, code);
 }
 
 enum answer code_included(uint32_t a, uint32_t *code)
@@ -194,18 +201,12 @@ enum answer code_included(uint32_t a, uint32_t *code)
 
 enum answer code_orientation(uint32_t a, uint32_t *code)
 {
-    if (a >= 180000)
-        return OUT_OF_RANGE;
-    *code = a / 1000;
-    return DONE;
+    return code_angle(a, 180000, 1000, code);
 }
 
 enum answer code_bearing(uint32_t a, uint32_t *code)
 {
-    if (a >= 360000)
-        return OUT_OF_RANGE;
-    *code = a / 1000;
-    return DONE;
+    return code_angle(a, 360000, 1000, code);
 }
 
 enum answer code_horizontal_speed(uint32_t h, uint32_t *code)
@@ -260,20 +261,22 @@ enum answer report_longitude(int64_t code, int64_t *x)
     return DONE;
 }
 
-enum answer report_uncertainty(int64_t code, uint32_t *r)
+static inline enum answer report_entry(const uint32_t table[128], int64_t code, uint32_t *r)
 {
     if (!within(code, 127))
         return OUT_OF_RANGE;
-    *r = radius_table[code];
+    *r = table[code];
     return DONE;
+}
+
+enum answer report_uncertainty(int64_t code, uint32_t *r)
+{
+    return report_entry(radius_table, code, r);
 }
 
 enum answer report_altitude_uncertainty(int64_t code, uint32_t *h)
 {
-    if (!within(code, 127))
-        return OUT_OF_RANGE;
-    *h = height_table[code];
-    return DONE;
+    return report_entry(height_table, code, h);
 }
 
 enum answer report_altitude(int64_t depth, int64_t code, int32_t *a)
@@ -284,58 +287,57 @@ enum answer report_altitude(int64_t depth, int64_t code, int32_t *a)
     return DONE;
 }
 
-enum answer report_inner_radius(int64_t code, uint32_t *r)
+// Sixteen bits of steps.
+static inline enum answer report_steps(int64_t code, uint32_t step, uint32_t *size)
 {
     if (!within(code, 65535))
         return OUT_OF_RANGE;
-    *r = (uint32_t)code * 5000;
+    *size = (uint32_t)code * step;
     return DONE;
 }
 
-// An angle code too large is 5; one below zero is no code at all, 7.
-static enum answer angle(int64_t code, int64_t most)
+enum answer report_inner_radius(int64_t code, uint32_t *r)
 {
-    return code > most ? ANGLE_CODE : code < 0 ? OUT_OF_RANGE : DONE;
+    return report_steps(code, 5000, r);
+}
+
+enum answer report_horizontal_speed(int64_t code, uint32_t *h)
+{
+    return report_steps(code, 1000, h);
+}
+
+// The angle where step number `code` starts. A code too large is 5; one below zero is no code at all, 7.
+static inline enum answer report_angle(int64_t code, int64_t most, uint32_t step, uint32_t *a)
+{
+    if (code > most)
+        return ANGLE_CODE;
+    if (code < 0)
+        return OUT_OF_RANGE;
+    *a = (uint32_t)code * step;
+    return DONE;
 }
 
 enum answer report_offset(int64_t code, uint32_t *a)
 {
-    enum answer answer = angle(code, 179);
-    if (answer == DONE)
-        *a = (uint32_t)code * 2000;
-    return answer;
+    return report_angle(code, 179, 2000, a);
 }
 
 enum answer report_included(int64_t code, uint32_t *a)
 {
-    enum answer answer = angle(code, 179);
+    enum answer answer = report_angle(code, 179, 2000, a);
     if (answer == DONE)
-        *a = (uint32_t)code * 2000 + 2000;
+        *a += 2000; // the end of the step
     return answer;
 }
 
 enum answer report_orientation(int64_t code, uint32_t *a)
 {
-    enum answer answer = angle(code, 179);
-    if (answer == DONE)
-        *a = (uint32_t)code * 1000;
-    return answer;
+    return report_angle(code, 179, 1000, a);
 }
 
 enum answer report_bearing(int64_t code, uint32_t *a)
 {
-    enum answer answer = angle(code, 359);
-    if (answer == DONE)
-        *a = (uint32_t)code * 1000;
-    return answer;
-}
-
-enum answer report_horizontal_speed(int64_t code, uint32_t *h)
-{
-    if (!within(code, 65535))
-        return OUT_OF_RANGE;
-    *h = (uint32_t)code * 1000;
-    return DONE;
+    return report_angle(code, 359, 1000, a);
 }
 
 enum answer report_vertical_speed(int64_t down, int64_t code, int32_t *v)
@@ -386,51 +388,55 @@ static inline void read_coordinates(const uint8_t *at, struct coordinates *point
     point->longitude = (int32_t)(bits ^ 0x800000) - 0x800000;
 }
 
-enum answer read_shape(const uint8_t *message, size_t length, struct shape *shape)
+static inline enum answer read_polygon(const uint8_t *message, size_t length, struct shape *shape)
 {
-    memset(shape, 0, sizeof *shape);
-    shape->type = NOTHING;
-    if (length == 0)
-        return NO_OCTETS;
-    uint32_t type = message[0] >> 4;
-    if (shape_length[type] == 0)
-        return UNKNOWN_TYPE;
-    if (type == POLYGON) {
-        uint32_t count = message[0] & 15;
-        if (count < 3)
-            return POINT_COUNT;
-        if (length != 1 + 6 * count)
-            return WRONG_LENGTH;
-        shape->type = POLYGON;
-        shape->count = count;
-        for (uint32_t i = 0; i < count; i++)
-            read_coordinates(message + 1 + 6 * i, &shape->points[i]);
-        return DONE;
-    }
-    if (length != shape_length[type])
+    uint32_t count = message[0] & 15;
+    if (count < 3)
+        return POINT_COUNT;
+    if (length != 1 + 6 * count)
         return WRONG_LENGTH;
+    shape->type = POLYGON;
+    shape->count = count;
+    for (uint32_t i = 0; i < count; i++)
+        read_coordinates(message + 1 + 6 * i, &shape->points[i]);
+    return DONE;
+}
+
+static inline void read_axes(const uint8_t *at, struct shape *shape)
+{
+    shape->semi_major = at[0] & 127;
+    shape->semi_minor = at[1] & 127;
+    shape->orientation = at[2];
+}
+
+// The refusal of a message's angle codes and confidence code, in this order.
+static inline enum answer check_octets(uint8_t angle, uint8_t other_angle, uint8_t confidence)
+{
+    if (angle >= 180 || other_angle >= 180)
+        return ANGLE_CODE;
+    return (confidence & 127) > 100 ? CONFIDENCE_CODE : DONE;
+}
+
+// What stands in a message after its one point. A refusal comes before anything is taken.
+static inline enum answer read_fields(const uint8_t *message, uint32_t type, struct shape *shape)
+{
+    enum answer answer;
     switch (type) {
     case CIRCLE:
         shape->uncertainty = message[7] & 127;
         break;
     case ELLIPSE:
-        if (message[9] >= 180)
-            return ANGLE_CODE;
-        if ((message[10] & 127) > 100)
-            return CONFIDENCE_CODE;
-        shape->semi_major = message[7] & 127;
-        shape->semi_minor = message[8] & 127;
-        shape->orientation = message[9];
+        answer = check_octets(message[9], 0, message[10]);
+        if (answer != DONE)
+            return answer;
+        read_axes(message + 7, shape);
         shape->confidence = message[10] & 127;
         break;
     case ELLIPSOID:
-        if (message[11] >= 180)
-            return ANGLE_CODE;
-        if ((message[13] & 127) > 100)
-            return CONFIDENCE_CODE;
-        shape->semi_major = message[9] & 127;
-        shape->semi_minor = message[10] & 127;
-        shape->orientation = message[11];
+        answer = check_octets(message[11], 0, message[13]);
+        if (answer != DONE)
+            return answer;
+        read_axes(message + 9, shape);
         shape->altitude_uncertainty = message[12] & 127;
         shape->confidence = message[13] & 127;
         // fall through
@@ -439,10 +445,9 @@ enum answer read_shape(const uint8_t *message, size_t length, struct shape *shap
         shape->altitude = two_octets(message + 7) & 32767;
         break;
     case ARC:
-        if (message[10] >= 180 || message[11] >= 180)
-            return ANGLE_CODE;
-        if ((message[12] & 127) > 100)
-            return CONFIDENCE_CODE;
+        answer = check_octets(message[10], message[11], message[12]);
+        if (answer != DONE)
+            return answer;
         shape->inner_radius = two_octets(message + 7);
         shape->uncertainty = message[9] & 127;
         shape->offset = message[10];
@@ -452,6 +457,25 @@ enum answer read_shape(const uint8_t *message, size_t length, struct shape *shap
     default:
         break;
     }
+    return DONE;
+}
+
+enum answer read_shape(const uint8_t *message, size_t length, struct shape *shape)
+{
+    memset(shape, 0, sizeof *shape);
+    shape->type = NOTHING;
+    if (length == 0)
+        return NO_OCTETS;
+    uint32_t type = message[0] >> 4;
+    if (shape_length[type] == 0)
+        return UNKNOWN_TYPE;
+    if (type == POLYGON)
+        return read_polygon(message, length, shape);
+    if (length != shape_length[type])
+        return WRONG_LENGTH;
+    enum answer answer = read_fields(message, type, shape);
+    if (answer != DONE)
+        return answer;
     shape->type = type;
     read_coordinates(message + 1, &shape->centre);
     return DONE;
@@ -571,6 +595,44 @@ static inline void write_coordinates(uint8_t *at, const struct coordinates *poin
     write_two(at + 4, (uint32_t)point->longitude);
 }
 
+static inline void write_axes(uint8_t *at, uint32_t semi_major, uint32_t semi_minor, uint32_t orientation)
+{
+    at[0] = (uint8_t)semi_major;
+    at[1] = (uint8_t)semi_minor;
+    at[2] = (uint8_t)orientation;
+}
+
+// What stands in a message after its one point.
+static inline void write_fields(uint8_t *buffer, uint32_t type, const struct shape *shape)
+{
+    switch (type) {
+    case CIRCLE:
+        buffer[7] = (uint8_t)shape->uncertainty;
+        break;
+    case ELLIPSE:
+        write_axes(buffer + 7, shape->semi_major, shape->semi_minor, shape->orientation);
+        buffer[10] = (uint8_t)shape->confidence;
+        break;
+    case ELLIPSOID:
+        write_axes(buffer + 9, shape->semi_major, shape->semi_minor, shape->orientation);
+        buffer[12] = (uint8_t)shape->altitude_uncertainty;
+        buffer[13] = (uint8_t)shape->confidence;
+        // fall through
+    case ALTITUDE:
+        write_two(buffer + 7, shape->depth << 15 | shape->altitude);
+        break;
+    case ARC:
+        write_two(buffer + 7, shape->inner_radius);
+        buffer[9] = (uint8_t)shape->uncertainty;
+        buffer[10] = (uint8_t)shape->offset;
+        buffer[11] = (uint8_t)shape->included;
+        buffer[12] = (uint8_t)shape->confidence;
+        break;
+    default:
+        break;
+    }
+}
+
 enum answer write_shape(const struct shape *shape, uint8_t *buffer, size_t room, size_t *length)
 {
     *length = 0;
@@ -589,36 +651,7 @@ enum answer write_shape(const struct shape *shape, uint8_t *buffer, size_t room,
         return DONE;
     }
     write_coordinates(buffer + 1, &shape->centre);
-    switch (type) {
-    case CIRCLE:
-        buffer[7] = (uint8_t)shape->uncertainty;
-        break;
-    case ELLIPSE:
-        buffer[7] = (uint8_t)shape->semi_major;
-        buffer[8] = (uint8_t)shape->semi_minor;
-        buffer[9] = (uint8_t)shape->orientation;
-        buffer[10] = (uint8_t)shape->confidence;
-        break;
-    case ELLIPSOID:
-        buffer[9] = (uint8_t)shape->semi_major;
-        buffer[10] = (uint8_t)shape->semi_minor;
-        buffer[11] = (uint8_t)shape->orientation;
-        buffer[12] = (uint8_t)shape->altitude_uncertainty;
-        buffer[13] = (uint8_t)shape->confidence;
-        // fall through
-    case ALTITUDE:
-        write_two(buffer + 7, shape->depth << 15 | shape->altitude);
-        break;
-    case ARC:
-        write_two(buffer + 7, shape->inner_radius);
-        buffer[9] = (uint8_t)shape->uncertainty;
-        buffer[10] = (uint8_t)shape->offset;
-        buffer[11] = (uint8_t)shape->included;
-        buffer[12] = (uint8_t)shape->confidence;
-        break;
-    default:
-        break;
-    }
+    write_fields(buffer, type, shape);
     return DONE;
 }
 
@@ -850,9 +883,8 @@ static uint32_t best_type(const struct request *q, uint32_t list, uint32_t major
     return best != NOTHING && (list >> best & 1) ? best : NOTHING;
 }
 
-enum answer choose(const struct request *q, uint32_t list, uint8_t *buffer, size_t room, size_t *length)
+static inline enum answer check_request(const struct request *q)
 {
-    *length = 0;
     if (!place_in_range(&q->centre) || !confidence_in_range(q->confidence))
         return OUT_OF_RANGE;
     if (q->horizontal == ASKED_ELLIPSE && (q->orientation >= 180000 || q->semi_minor > q->semi_major))
@@ -860,6 +892,15 @@ enum answer choose(const struct request *q, uint32_t list, uint8_t *buffer, size
     if ((q->horizontal != NOT_ASKED && q->semi_major > radius_table[127])
         || (q->altitude_uncertainty.given && q->altitude_uncertainty.value > height_table[127]))
         return TOO_UNCERTAIN;
+    return DONE;
+}
+
+enum answer choose(const struct request *q, uint32_t list, uint8_t *buffer, size_t room, size_t *length)
+{
+    *length = 0;
+    enum answer answer = check_request(q);
+    if (answer != DONE)
+        return answer;
     uint32_t major = 0, minor = 0, orientation = 0;
     if (q->horizontal != NOT_ASKED)
         major = minor = least_covering(radius_table, q->semi_major);
@@ -879,18 +920,14 @@ enum answer choose(const struct request *q, uint32_t list, uint8_t *buffer, size
     if (type == CIRCLE) {
         buffer[7] = (uint8_t)major;
     } else if (type == ELLIPSE) {
-        buffer[7] = (uint8_t)major;
-        buffer[8] = (uint8_t)minor;
-        buffer[9] = (uint8_t)orientation;
+        write_axes(buffer + 7, major, minor, orientation);
         buffer[10] = (uint8_t)confidence_code(q->confidence);
     } else if (type != POINT) {
         uint32_t depth, altitude;
         code_altitude(q->altitude, &depth, &altitude);
         write_two(buffer + 7, depth << 15 | altitude);
         if (type == ELLIPSOID) {
-            buffer[9] = (uint8_t)major;
-            buffer[10] = (uint8_t)minor;
-            buffer[11] = (uint8_t)orientation;
+            write_axes(buffer + 9, major, minor, orientation);
             buffer[12] = (uint8_t)least_covering(height_table, q->altitude_uncertainty.value);
             buffer[13] = (uint8_t)confidence_code(q->confidence);
         }

@@ -44,23 +44,19 @@ int64_t plain_read_velocity(uint32_t *codes, size_t code_cells, const uint8_t *m
     return hand_back(answer, codes, code_cells, &velocity, GAD_VELOCITY_CODES, sizeof velocity);
 }
 
-int64_t plain_write_shape(uint8_t *out, size_t room, const uint32_t *codes, size_t code_cells)
-{
-    if (code_cells < GAD_SHAPE_CODES)
-        return refused(WRONG_LENGTH);
-    size_t length;
-    enum answer answer = write_shape((const struct shape *)codes, out, room, &length);
-    return answer == DONE ? (int64_t)length : refused(answer);
-}
+// A macro: gcc makes slower code of a function at the end of both.
+#define PLAIN_WRITE(record, cells)                                                                    \
+    int64_t plain_write_##record(uint8_t *out, size_t room, const uint32_t *codes, size_t code_cells) \
+    {                                                                                                 \
+        if (code_cells < cells)                                                                       \
+            return refused(WRONG_LENGTH);                                                             \
+        size_t length;                                                                                \
+        enum answer answer = write_##record((const struct record *)codes, out, room, &length);        \
+        return answer == DONE ? (int64_t)length : refused(answer);                                    \
+    }
 
-int64_t plain_write_velocity(uint8_t *out, size_t room, const uint32_t *codes, size_t code_cells)
-{
-    if (code_cells < GAD_VELOCITY_CODES)
-        return refused(WRONG_LENGTH);
-    size_t length;
-    enum answer answer = write_velocity((const struct velocity *)codes, out, room, &length);
-    return answer == DONE ? (int64_t)length : refused(answer);
-}
+PLAIN_WRITE(shape, GAD_SHAPE_CODES)
+PLAIN_WRITE(velocity, GAD_VELOCITY_CODES)
 
 // ---- Codes to quantities ----
 
