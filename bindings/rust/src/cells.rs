@@ -2,28 +2,103 @@
 
 use crate::numbers::{Code, Quantity};
 
-pub fn put<C: Code>(cells: &mut [u32], at: usize, code: C) {
-    let code = code.to_cells();
-    let code = code.as_ref();
-    cells[at..at + code.len()].copy_from_slice(code);
+/// What stands in one or more cells, from the first of a slice on.
+pub trait Stored<Cell>: Sized {
+    fn put(&self, cells: &mut [Cell]);
+    fn take(cells: &[Cell]) -> Self;
 }
 
-pub fn take<C: Code>(cells: &[u32], at: usize) -> C {
-    let mut code = C::Cells::default();
-    let count = code.as_ref().len();
-    code.as_mut().copy_from_slice(&cells[at..at + count]);
-    C::from_cells(code)
+impl<C: Code + Copy> Stored<u32> for C {
+    fn put(&self, cells: &mut [u32]) {
+        let code = self.to_cells();
+        let code = code.as_ref();
+        cells[..code.len()].copy_from_slice(code);
+    }
+
+    fn take(cells: &[u32]) -> Self {
+        let mut code = C::Cells::default();
+        let count = code.as_ref().len();
+        code.as_mut().copy_from_slice(&cells[..count]);
+        C::from_cells(code)
+    }
 }
 
-pub fn put_quantity<Q: Quantity>(cells: &mut [i64], at: usize, quantity: Q) {
-    cells[at] = quantity.to_cell();
+impl<Q: Quantity + Copy> Stored<i64> for Q {
+    fn put(&self, cells: &mut [i64]) {
+        cells[0] = self.to_cell();
+    }
+
+    fn take(cells: &[i64]) -> Self {
+        Q::from_cell(cells[0])
+    }
 }
 
-pub fn take_quantity<Q: Quantity>(cells: &[i64], at: usize) -> Q {
-    Q::from_cell(cells[at])
+/// What has an array of its own.
+pub trait Record: Sized {
+    type Cell;
+    type Cells: AsRef<[Self::Cell]> + AsMut<[Self::Cell]>;
+    /// The cells of a record without any field.
+    const BLANK: Self::Cells;
+    fn to_cells(&self) -> Self::Cells;
+    fn from_cells(cells: &Self::Cells) -> Self;
 }
 
-/// The count of a polygon's points as a cell; the library refuses every count above fifteen alike.
-pub fn count_of<T>(points: &[T]) -> u32 {
-    u32::try_from(points.len()).unwrap_or(u32::MAX)
+/// A struct whose fields stand in the cells that are written after them.
+macro_rules! group {
+    ($(#[$text:meta])* $name:ident of $cell:ty { $($field:ident: $type:ty = $at:literal),* $(,)? }) => {
+        $(#[$text])*
+        #[derive(Clone, Copy, Debug, PartialEq, Eq, Hash)]
+        pub struct $name {
+            $(pub $field: $type),*
+        }
+
+        impl Stored<$cell> for $name {
+            fn put(&self, cells: &mut [$cell]) {
+                $(self.$field.put(&mut cells[$at..]);)*
+            }
+
+            fn take(cells: &[$cell]) -> Self {
+                $name { $($field: Stored::take(&cells[$at..])),* }
+            }
+        }
+    };
 }
+
+/// An enum that is a record: the number of its type in cell 0, and the fields from the cells on that are written after them.
+macro_rules! record {
+    (
+        $(#[$text:meta])* $name:ident of [$cell:ty; $cells:literal], $blank:expr;
+        $($(#[$type_text:meta])* $type:ident = $number:literal { $($field:ident: $kind:ty = $at:literal),* $(,)? }),* $(,)?
+    ) => {
+        $(#[$text])*
+        pub enum $name {
+            $($(#[$type_text])* $type { $($field: $kind),* }),*
+        }
+
+        impl Record for $name {
+            type Cell = $cell;
+            type Cells = [$cell; $cells];
+            const BLANK: [$cell; $cells] = $blank;
+
+            fn to_cells(&self) -> [$cell; $cells] {
+                let mut cells = Self::BLANK;
+                match self {
+                    $($name::$type { $($field),* } => {
+                        cells[0] = $number;
+                        $($field.put(&mut cells[$at..]);)*
+                    })*
+                }
+                cells
+            }
+
+            fn from_cells(cells: &[$cell; $cells]) -> Self {
+                match cells[0] {
+                    $($number => $name::$type { $($field: Stored::take(&cells[$at..])),* },)*
+                    other => unreachable!("the library gives no {} of type {other}", stringify!($name)),
+                }
+            }
+        }
+    };
+}
+
+pub(crate) use {group, record};

@@ -31,73 +31,67 @@ pub use requests::{Horizontal, Request};
 pub use shapes::{Axes, AxesCodes, Place, PlaceCodes, Shape, ShapeCodes};
 pub use velocities::{Course, CourseCodes, Velocity, VelocityCodes};
 
-use requests::REQUEST;
-use shapes::{SHAPE_CODES, SHAPE_QUANTITIES};
+use cells::Record;
 use std::fmt;
-use velocities::{VELOCITY_CODES, VELOCITY_QUANTITIES};
 
 /// The longest message: a polygon of fifteen points.
 pub const LONGEST_MESSAGE: usize = 91;
 
-/// Why there is no answer. The first that applies, in the order that each function gives.
-#[derive(Clone, Copy, Debug, PartialEq, Eq, Hash)]
-pub enum Refusal {
-    /// A message of no octets.
-    NoOctets = 1,
-    /// No such shape or velocity.
-    UnknownType = 2,
-    /// A message whose length is not its layout's.
-    WrongLength = 3,
-    /// A polygon of fewer than 3 or more than 15 points.
-    PolygonCount = 4,
-    /// An orientation, offset or included code of 180 or more, a bearing code of 360 or more.
-    AngleCode = 5,
-    /// A confidence code of 101 or more.
-    ConfidenceTooLarge = 6,
-    /// A quantity outside its range, a code outside its field.
-    OutOfRange = 7,
-    /// An uncertainty above what the largest code covers.
-    UncertaintyTooLarge = 8,
-    /// No shape on the list holds the request.
-    NoneHolds = 9,
-    /// A buffer shorter than the message.
-    BufferTooShort = 10,
+macro_rules! refusals {
+    ($($(#[$text:meta])* $name:ident = $number:literal: $said:literal),* $(,)?) => {
+        /// Why there is no answer. The first that applies, in the order that each function gives.
+        #[derive(Clone, Copy, Debug, PartialEq, Eq, Hash)]
+        pub enum Refusal {
+            $($(#[$text])* $name = $number),*
+        }
+
+        impl Refusal {
+            fn of_number(number: i64) -> Option<Self> {
+                match number {
+                    $($number => Some(Refusal::$name),)*
+                    _ => None,
+                }
+            }
+        }
+
+        impl fmt::Display for Refusal {
+            fn fmt(&self, f: &mut fmt::Formatter<'_>) -> fmt::Result {
+                f.write_str(match self {
+                    $(Refusal::$name => $said),*
+                })
+            }
+        }
+    };
 }
 
-impl fmt::Display for Refusal {
-    fn fmt(&self, f: &mut fmt::Formatter<'_>) -> fmt::Result {
-        f.write_str(match self {
-            Refusal::NoOctets => "no octets",
-            Refusal::UnknownType => "no such shape or velocity",
-            Refusal::WrongLength => "the length is not the layout's",
-            Refusal::PolygonCount => "a polygon has 3 to 15 points",
-            Refusal::AngleCode => "an angle code is too large",
-            Refusal::ConfidenceTooLarge => "a confidence code is too large",
-            Refusal::OutOfRange => "a quantity is out of its range, or a code out of its field",
-            Refusal::UncertaintyTooLarge => "an uncertainty is larger than any code covers",
-            Refusal::NoneHolds => "no shape on the list holds the request",
-            Refusal::BufferTooShort => "the buffer is shorter than the message",
-        })
-    }
-}
+refusals!(
+    /// A message of no octets.
+    NoOctets = 1: "no octets",
+    /// No such shape or velocity.
+    UnknownType = 2: "no such shape or velocity",
+    /// A message whose length is not its layout's.
+    WrongLength = 3: "the length is not the layout's",
+    /// A polygon of fewer than 3 or more than 15 points.
+    PolygonCount = 4: "a polygon has 3 to 15 points",
+    /// An orientation, offset or included code of 180 or more, a bearing code of 360 or more.
+    AngleCode = 5: "an angle code is too large",
+    /// A confidence code of 101 or more.
+    ConfidenceTooLarge = 6: "a confidence code is too large",
+    /// A quantity outside its range, a code outside its field.
+    OutOfRange = 7: "a quantity is out of its range, or a code out of its field",
+    /// An uncertainty above what the largest code covers.
+    UncertaintyTooLarge = 8: "an uncertainty is larger than any code covers",
+    /// No shape on the list holds the request.
+    NoneHolds = 9: "no shape on the list holds the request",
+    /// A buffer shorter than the message.
+    BufferTooShort = 10: "the buffer is shorter than the message",
+);
 
 impl std::error::Error for Refusal {}
 
 /// How many cells or octets a call put, or why it put none.
 fn put_or_refused(answer: i64) -> Result<usize, Refusal> {
-    Err(match answer {
-        -1 => Refusal::NoOctets,
-        -2 => Refusal::UnknownType,
-        -3 => Refusal::WrongLength,
-        -4 => Refusal::PolygonCount,
-        -5 => Refusal::AngleCode,
-        -6 => Refusal::ConfidenceTooLarge,
-        -7 => Refusal::OutOfRange,
-        -8 => Refusal::UncertaintyTooLarge,
-        -9 => Refusal::NoneHolds,
-        -10 => Refusal::BufferTooShort,
-        put => return Ok(usize::try_from(put).expect("the library gives no other refusal")),
-    })
+    usize::try_from(answer).map_err(|_| Refusal::of_number(-answer).expect("the library gives no other refusal"))
 }
 
 /// A call that is given one array and fills another: (to, room, from, cells).
@@ -110,18 +104,21 @@ fn call<T, F>(function: ArrayCall<T, F>, to: &mut [T], from: &[F]) -> Result<usi
     put_or_refused(unsafe { function(to.as_mut_ptr(), to.len(), from.as_ptr(), from.len()) })
 }
 
+/// The record that a call fills.
+fn filled<R: Record, F>(function: ArrayCall<R::Cell, F>, from: &[F]) -> Result<R, Refusal> {
+    let mut cells = R::BLANK;
+    call(function, cells.as_mut(), from)?;
+    Ok(R::from_cells(&cells))
+}
+
 /// Octets to codes. Refused: no octets, unknown type, polygon count, wrong length, angle code, confidence too large.
 pub fn read_shape(message: &[u8]) -> Result<ShapeCodes, Refusal> {
-    let mut codes = [0; SHAPE_CODES];
-    call(library::gad_read_shape, &mut codes, message)?;
-    Ok(ShapeCodes::from_cells(&codes))
+    filled(library::gad_read_shape, message)
 }
 
 /// Octets to codes. Refused: no octets, unknown type, wrong length, angle code.
 pub fn read_velocity(message: &[u8]) -> Result<VelocityCodes, Refusal> {
-    let mut codes = [0; VELOCITY_CODES];
-    call(library::gad_read_velocity, &mut codes, message)?;
-    Ok(VelocityCodes::from_cells(&codes))
+    filled(library::gad_read_velocity, message)
 }
 
 /// Codes to octets: the message's length. Refused: polygon count, angle code, confidence too large, out of range, buffer too short.
@@ -136,36 +133,28 @@ pub fn write_velocity(codes: &VelocityCodes, out: &mut [u8]) -> Result<usize, Re
 
 /// Codes to the quantities that they report. Refused: polygon count, angle code, confidence too large, out of range.
 pub fn report_shape(codes: &ShapeCodes) -> Result<Shape, Refusal> {
-    let mut quantities = [0; SHAPE_QUANTITIES];
-    call(library::gad_report_shape, &mut quantities, &codes.to_cells())?;
-    Ok(Shape::from_cells(&quantities))
+    filled(library::gad_report_shape, &codes.to_cells())
 }
 
 /// Codes to the quantities that they report. Refused: angle code, out of range.
 pub fn report_velocity(codes: &VelocityCodes) -> Result<Velocity, Refusal> {
-    let mut quantities = [0; VELOCITY_QUANTITIES];
-    call(library::gad_report_velocity, &mut quantities, &codes.to_cells())?;
-    Ok(Velocity::from_cells(&quantities))
+    filled(library::gad_report_velocity, &codes.to_cells())
 }
 
 /// Quantities to the codes of their own type. Refused: polygon count, out of range, uncertainty too large.
 pub fn code_shape(shape: &Shape) -> Result<ShapeCodes, Refusal> {
-    let mut codes = [0; SHAPE_CODES];
-    call(library::gad_code_shape, &mut codes, &shape.to_cells())?;
-    Ok(ShapeCodes::from_cells(&codes))
+    filled(library::gad_code_shape, &shape.to_cells())
 }
 
 /// Quantities to the codes of their own type. Refused: out of range, uncertainty too large.
 pub fn code_velocity(velocity: &Velocity) -> Result<VelocityCodes, Refusal> {
-    let mut codes = [0; VELOCITY_CODES];
-    call(library::gad_code_velocity, &mut codes, &velocity.to_cells())?;
-    Ok(VelocityCodes::from_cells(&codes))
+    filled(library::gad_code_velocity, &velocity.to_cells())
 }
 
 /// A request to the octets of the best message of the shapes on the receiver's list, bit t of which is shape t: the message's length, 14
 /// at most. Refused: out of range, uncertainty too large, none holds, buffer too short.
 pub fn choose(request: &Request, list: u16, out: &mut [u8]) -> Result<usize, Refusal> {
-    let cells: [i64; REQUEST] = request.to_cells();
+    let cells = request.to_cells();
     // SAFETY: as in call().
     put_or_refused(unsafe { library::gad_choose(out.as_mut_ptr(), out.len(), cells.as_ptr(), cells.len(), list) })
 }

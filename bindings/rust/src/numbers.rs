@@ -1,33 +1,5 @@
 //! Quantities in their units and codes in their fields. None is ever taken for another.
 
-/// Latitude and longitude, north and east above zero.
-#[derive(Clone, Copy, Debug, PartialEq, Eq, PartialOrd, Ord, Hash)]
-pub struct Nanodegrees(pub i64);
-
-/// Every other angle.
-#[derive(Clone, Copy, Debug, PartialEq, Eq, PartialOrd, Ord, Hash)]
-pub struct Millidegrees(pub u32);
-
-/// A length without a direction.
-#[derive(Clone, Copy, Debug, PartialEq, Eq, PartialOrd, Ord, Hash)]
-pub struct Millimetres(pub u32);
-
-/// An altitude, depth below zero.
-#[derive(Clone, Copy, Debug, PartialEq, Eq, PartialOrd, Ord, Hash)]
-pub struct AltitudeMillimetres(pub i32);
-
-/// A speed without a direction.
-#[derive(Clone, Copy, Debug, PartialEq, Eq, PartialOrd, Ord, Hash)]
-pub struct MetresPerHour(pub u32);
-
-/// A vertical speed, down below zero.
-#[derive(Clone, Copy, Debug, PartialEq, Eq, PartialOrd, Ord, Hash)]
-pub struct VerticalMetresPerHour(pub i32);
-
-/// A confidence.
-#[derive(Clone, Copy, Debug, PartialEq, Eq, PartialOrd, Ord, Hash)]
-pub struct Percent(pub u32);
-
 /// The mark of what is missing, in a cell of quantities.
 pub(crate) const MISSING: i64 = i64::MIN;
 
@@ -40,7 +12,11 @@ pub trait Quantity: Sized {
 }
 
 macro_rules! quantities {
-    ($($name:ident($number:ty)),* $(,)?) => {$(
+    ($($(#[$text:meta])* $name:ident($number:ty)),* $(,)?) => {$(
+        $(#[$text])*
+        #[derive(Clone, Copy, Debug, PartialEq, Eq, PartialOrd, Ord, Hash)]
+        pub struct $name(pub $number);
+
         impl Quantity for $name {
             fn to_cell(self) -> i64 {
                 i64::from(self.0)
@@ -54,12 +30,19 @@ macro_rules! quantities {
 }
 
 quantities!(
+    /// Latitude and longitude, north and east above zero.
     Nanodegrees(i64),
+    /// Every other angle.
     Millidegrees(u32),
+    /// A length without a direction.
     Millimetres(u32),
+    /// An altitude, depth below zero.
     AltitudeMillimetres(i32),
+    /// A speed without a direction.
     MetresPerHour(u32),
+    /// A vertical speed, down below zero.
     VerticalMetresPerHour(i32),
+    /// A confidence.
     Percent(u32),
 );
 

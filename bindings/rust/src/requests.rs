@@ -1,6 +1,6 @@
 //! Requests for one point.
 
-use crate::cells::put_quantity;
+use crate::cells::Stored;
 use crate::numbers::*;
 use crate::shapes::{Axes, Place};
 
@@ -8,7 +8,7 @@ pub(crate) const REQUEST: usize = 8;
 
 /// Where each quantity stands among the cells.
 mod ask_at {
-    pub const LATITUDE: usize = 0;
+    pub const PLACE: usize = 0;
     pub const ALTITUDE: usize = 2;
     pub const AXES: usize = 3;
     pub const ALTITUDE_UNCERTAINTY: usize = 6;
@@ -35,15 +35,15 @@ pub enum Horizontal {
 impl Request {
     pub(crate) fn to_cells(self) -> [i64; REQUEST] {
         let mut cells = [MISSING; REQUEST];
-        self.place.put(&mut cells, ask_at::LATITUDE);
-        put_quantity(&mut cells, ask_at::ALTITUDE, self.altitude);
+        self.place.put(&mut cells[ask_at::PLACE..]);
+        self.altitude.put(&mut cells[ask_at::ALTITUDE..]);
         match self.horizontal {
-            Some(Horizontal::Circle(radius)) => put_quantity(&mut cells, ask_at::AXES, radius),
-            Some(Horizontal::Ellipse(axes)) => axes.put(&mut cells, ask_at::AXES),
+            Some(Horizontal::Circle(radius)) => radius.put(&mut cells[ask_at::AXES..]),
+            Some(Horizontal::Ellipse(axes)) => axes.put(&mut cells[ask_at::AXES..]),
             None => {}
         }
-        put_quantity(&mut cells, ask_at::ALTITUDE_UNCERTAINTY, self.altitude_uncertainty);
-        put_quantity(&mut cells, ask_at::CONFIDENCE, self.confidence);
+        self.altitude_uncertainty.put(&mut cells[ask_at::ALTITUDE_UNCERTAINTY..]);
+        self.confidence.put(&mut cells[ask_at::CONFIDENCE..]);
         cells
     }
 }

@@ -1,5 +1,8 @@
 //! Every shape there and back, against messages worked out by hand from document 01, and what is refused.
 
+mod common;
+
+use common::test_samples;
 use gad::*;
 
 const PLACE: Place = Place { latitude: Nanodegrees(45_000_000_000), longitude: Nanodegrees(-90_000_000_000) };
@@ -91,22 +94,7 @@ fn samples() -> Vec<(Vec<u8>, ShapeCodes, Shape)> {
     ]
 }
 
-#[test]
-fn messages_are_read() {
-    for (message, codes, _) in samples() {
-        assert_eq!(read_shape(&message), Ok(codes));
-    }
-}
-
-#[test]
-fn no_other_length_is_read() {
-    for (message, ..) in samples() {
-        let mut longer = message.clone();
-        longer.push(0);
-        assert_eq!(read_shape(&longer), Err(Refusal::WrongLength));
-        assert_eq!(read_shape(&message[..message.len() - 1]), Err(Refusal::WrongLength));
-    }
-}
+test_samples!(read_shape, write_shape, report_shape, code_shape);
 
 #[test]
 fn spare_bits_are_ignored() {
@@ -115,56 +103,11 @@ fn spare_bits_are_ignored() {
 }
 
 #[test]
-fn codes_are_written_and_the_rest_of_the_buffer_is_kept() {
-    for (message, codes, _) in samples() {
-        let mut out = [0xA5; LONGEST_MESSAGE];
-        assert_eq!(write_shape(&codes, &mut out), Ok(message.len()));
-        assert_eq!(out[..message.len()], message);
-        assert!(out[message.len()..].iter().all(|octet| *octet == 0xA5));
-    }
-}
-
-#[test]
-fn a_short_buffer_is_refused_and_kept() {
-    for (message, codes, _) in samples() {
-        for room in 0..message.len() {
-            let mut out = [0xA5; LONGEST_MESSAGE];
-            assert_eq!(write_shape(&codes, &mut out[..room]), Err(Refusal::BufferTooShort));
-            assert_eq!(out, [0xA5; LONGEST_MESSAGE]);
-        }
-    }
-}
-
-#[test]
 fn every_shape_but_a_polygon_has_one_place() {
     for (_, codes, shape) in samples() {
         let polygon = matches!(shape, Shape::Polygon { .. });
         assert_eq!(codes.place(), (!polygon).then_some(CODES));
         assert_eq!(shape.place(), (!polygon).then_some(PLACE));
-    }
-}
-
-#[test]
-fn codes_are_reported() {
-    for (_, codes, shape) in samples() {
-        assert_eq!(report_shape(&codes), Ok(shape));
-    }
-}
-
-#[test]
-fn quantities_are_coded() {
-    for (_, codes, shape) in samples() {
-        assert_eq!(code_shape(&shape), Ok(codes));
-    }
-}
-
-#[test]
-fn a_message_comes_back_by_way_of_quantities() {
-    for (message, ..) in samples() {
-        let shape = report_shape(&read_shape(&message).unwrap()).unwrap();
-        let mut out = [0; LONGEST_MESSAGE];
-        let length = write_shape(&code_shape(&shape).unwrap(), &mut out).unwrap();
-        assert_eq!(out[..length], message);
     }
 }
 

@@ -1,5 +1,8 @@
 //! Every velocity there and back, against messages worked out by hand from document 01, and what is refused.
 
+mod common;
+
+use common::test_samples;
 use gad::*;
 
 const COURSE: Course = Course { bearing: Millidegrees(300_000), speed: MetresPerHour(90_000) };
@@ -36,47 +39,7 @@ fn samples() -> Vec<(Vec<u8>, VelocityCodes, Velocity)> {
     ]
 }
 
-#[test]
-fn messages_are_read() {
-    for (message, codes, _) in samples() {
-        assert_eq!(read_velocity(&message), Ok(codes));
-    }
-}
-
-#[test]
-fn codes_are_written_and_the_rest_of_the_buffer_is_kept() {
-    for (message, codes, _) in samples() {
-        let mut out = [0xA5; 9];
-        assert_eq!(write_velocity(&codes, &mut out), Ok(message.len()));
-        assert_eq!(out[..message.len()], message);
-        assert!(out[message.len()..].iter().all(|octet| *octet == 0xA5));
-        assert_eq!(write_velocity(&codes, &mut out[..message.len() - 1]), Err(Refusal::BufferTooShort));
-    }
-}
-
-#[test]
-fn codes_are_reported() {
-    for (_, codes, velocity) in samples() {
-        assert_eq!(report_velocity(&codes), Ok(velocity));
-    }
-}
-
-#[test]
-fn quantities_are_coded() {
-    for (_, codes, velocity) in samples() {
-        assert_eq!(code_velocity(&velocity), Ok(codes));
-    }
-}
-
-#[test]
-fn a_message_comes_back_by_way_of_quantities() {
-    for (message, ..) in samples() {
-        let velocity = report_velocity(&read_velocity(&message).unwrap()).unwrap();
-        let mut out = [0; 7];
-        let length = write_velocity(&code_velocity(&velocity).unwrap(), &mut out).unwrap();
-        assert_eq!(out[..length], message);
-    }
-}
+test_samples!(read_velocity, write_velocity, report_velocity, code_velocity);
 
 #[test]
 fn unreadable_messages_are_refused() {
