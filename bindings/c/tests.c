@@ -34,6 +34,20 @@ static int kept(const void *from, size_t octets)
     return 1;
 }
 
+// What a call did with an array that fill() had filled: `answer` is what it should answer, and `expected` starts with what it should put.
+static void check_filled(int64_t answered, int64_t answer, const void *array, size_t octets, const void *expected, size_t cell, const char *about, int line)
+{
+    size_t put = answer > 0 ? (size_t)answer * cell : 0;
+    check(answered == answer, "the answer", about, line);
+    if (put > 0)
+        check(memcmp(array, expected, put) == 0, "what it put", about, line);
+    check(kept((const uint8_t *)array + put, octets - put), "what stands after it", about, line);
+}
+
+// The call fills the array.
+#define CHECK_FILLED(call, answer, array, expected, about) \
+    (fill(array, sizeof array), check_filled(call, answer, array, sizeof array, expected, sizeof array[0], about, __LINE__))
+
 // ---- The two kinds of message, by one description ----
 
 struct kind {
@@ -65,20 +79,19 @@ static void quantities_of(const struct sample *sample, int64_t quantities[SPACE]
         quantities[sample->quantities[i].cell] = sample->quantities[i].value;
 }
 
+// The answer of a call that fills `cells`, or finds too little room.
+static int64_t filling(size_t cells, size_t room)
+{
+    return room < cells ? -GAD_BUFFER_TOO_SHORT : (int64_t)cells;
+}
+
 // Room exactly as much, one more, and one less, for each function; a given array one too long, and one too short.
 static void check_read(const struct kind *kind, const struct sample *sample)
 {
     uint32_t codes[SPACE], expected[SPACE];
     codes_of(sample, expected);
-    for (size_t room = kind->codes - 1; room <= kind->codes + 1; room++) {
-        fill(codes, sizeof codes);
-        int64_t answer = kind->read(codes, room, sample->octets, sample->length);
-        size_t put = room < kind->codes ? 0 : kind->codes;
-        CHECK(answer == (put ? (int64_t)put : -GAD_BUFFER_TOO_SHORT), sample->name);
-        if (put > 0)
-            CHECK(memcmp(codes, expected, put * sizeof codes[0]) == 0, sample->name);
-        CHECK(kept(codes + put, (SPACE - put) * sizeof codes[0]), sample->name);
-    }
+    for (size_t room = kind->codes - 1; room <= kind->codes + 1; room++)
+        CHECK_FILLED(kind->read(codes, room, sample->octets, sample->length), filling(kind->codes, room), codes, expected, sample->name);
     for (size_t length = 1; length < sizeof sample->octets; length++)
         if (length != sample->length)
             CHECK(kind->read(codes, kind->codes, sample->octets, length) == -GAD_WRONG_LENGTH, sample->name);
@@ -90,18 +103,9 @@ static void check_write(const struct kind *kind, const struct sample *sample)
     uint32_t codes[SPACE];
     codes_of(sample, codes);
     codes[kind->codes] = UINT32_MAX; // not looked at
-    for (size_t room = 0; room <= sample->length + 1; room++) {
-        fill(octets, sizeof octets);
-        int64_t answer = kind->write(octets, room, codes, kind->codes + 1);
-        size_t put = room < sample->length ? 0 : sample->length;
-        CHECK(answer == (put ? (int64_t)put : -GAD_BUFFER_TOO_SHORT), sample->name);
-        if (put > 0)
-            CHECK(memcmp(octets, sample->octets, put) == 0, sample->name);
-        CHECK(kept(octets + put, SPACE - put), sample->name);
-    }
-    fill(octets, sizeof octets);
-    CHECK(kind->write(octets, SPACE, codes, kind->codes - 1) == -GAD_WRONG_LENGTH, sample->name);
-    CHECK(kept(octets, SPACE), sample->name);
+    for (size_t room = 0; room <= sample->length + 1; room++)
+        CHECK_FILLED(kind->write(octets, room, codes, kind->codes + 1), filling(sample->length, room), octets, sample->octets, sample->name);
+    CHECK_FILLED(kind->write(octets, SPACE, codes, kind->codes - 1), -GAD_WRONG_LENGTH, octets, sample->octets, sample->name);
 }
 
 static void check_report(const struct kind *kind, const struct sample *sample)
@@ -110,15 +114,8 @@ static void check_report(const struct kind *kind, const struct sample *sample)
     uint32_t codes[SPACE];
     codes_of(sample, codes);
     quantities_of(sample, expected);
-    for (size_t room = kind->quantities - 1; room <= kind->quantities + 1; room++) {
-        fill(quantities, sizeof quantities);
-        int64_t answer = kind->report(quantities, room, codes, kind->codes + room % 2);
-        size_t put = room < kind->quantities ? 0 : kind->quantities;
-        CHECK(answer == (put ? (int64_t)put : -GAD_BUFFER_TOO_SHORT), sample->name);
-        if (put > 0)
-            CHECK(memcmp(quantities, expected, put * sizeof quantities[0]) == 0, sample->name);
-        CHECK(kept(quantities + put, (SPACE - put) * sizeof quantities[0]), sample->name);
-    }
+    for (size_t room = kind->quantities - 1; room <= kind->quantities + 1; room++)
+        CHECK_FILLED(kind->report(quantities, room, codes, kind->codes + room % 2), filling(kind->quantities, room), quantities, expected, sample->name);
     CHECK(kind->report(quantities, SPACE, codes, kind->codes - 1) == -GAD_WRONG_LENGTH, sample->name);
 }
 
@@ -128,15 +125,8 @@ static void check_code(const struct kind *kind, const struct sample *sample)
     uint32_t codes[SPACE], expected[SPACE];
     codes_of(sample, expected);
     quantities_of(sample, quantities);
-    for (size_t room = kind->codes - 1; room <= kind->codes + 1; room++) {
-        fill(codes, sizeof codes);
-        int64_t answer = kind->code(codes, room, quantities, kind->quantities + room % 2);
-        size_t put = room < kind->codes ? 0 : kind->codes;
-        CHECK(answer == (put ? (int64_t)put : -GAD_BUFFER_TOO_SHORT), sample->name);
-        if (put > 0)
-            CHECK(memcmp(codes, expected, put * sizeof codes[0]) == 0, sample->name);
-        CHECK(kept(codes + put, (SPACE - put) * sizeof codes[0]), sample->name);
-    }
+    for (size_t room = kind->codes - 1; room <= kind->codes + 1; room++)
+        CHECK_FILLED(kind->code(codes, room, quantities, kind->quantities + room % 2), filling(kind->codes, room), codes, expected, sample->name);
     CHECK(kind->code(codes, SPACE, quantities, kind->quantities - 1) == -GAD_WRONG_LENGTH, sample->name);
 }
 
@@ -319,12 +309,8 @@ static void check_choice(void)
     };
     for (size_t i = 0; i < COUNT(choices); i++) {
         uint8_t out[SPACE];
-        fill(out, sizeof out);
-        size_t put = choices[i].answer > 0 ? (size_t)choices[i].answer : 0;
-        CHECK(gad_choose(out, choices[i].room, choices[i].request, GAD_REQUEST, choices[i].list) == choices[i].answer, choices[i].name);
-        if (put > 0)
-            CHECK(memcmp(out, choices[i].octets, put) == 0, choices[i].name);
-        CHECK(kept(out + put, SPACE - put), choices[i].name);
+        CHECK_FILLED(gad_choose(out, choices[i].room, choices[i].request, GAD_REQUEST, choices[i].list), choices[i].answer, out, choices[i].octets,
+            choices[i].name);
         CHECK(gad_choose(out, SPACE, choices[i].request, GAD_REQUEST - 1, choices[i].list) == -GAD_WRONG_LENGTH, choices[i].name);
     }
     CHECK(gad_choose(NULL, 0, choices[0].request, GAD_REQUEST, EVERY) == -GAD_BUFFER_TOO_SHORT, "null");
@@ -333,20 +319,19 @@ static void check_choice(void)
 
 // ---- Single codes and quantities ----
 
+// The answer to the same call without any room.
+static int64_t without_room(int64_t answer)
+{
+    return answer > 0 ? -GAD_BUFFER_TOO_SHORT : answer;
+}
+
 static void check_code_of(uint8_t field, int64_t quantity, int64_t answer, uint32_t first, uint32_t second)
 {
     char about[64];
     snprintf(about, sizeof about, "field %u, quantity %lld", (unsigned)field, (long long)quantity);
-    uint32_t code[4];
-    fill(code, sizeof code);
-    size_t put = answer > 0 ? (size_t)answer : 0;
-    CHECK(gad_code(code, 4, field, quantity) == answer, about);
-    if (put >= 1)
-        CHECK(code[0] == first, about);
-    if (put == 2)
-        CHECK(code[1] == second, about);
-    CHECK(kept(code + put, (4 - put) * sizeof code[0]), about);
-    CHECK(gad_code(NULL, 0, field, quantity) == (put ? -GAD_BUFFER_TOO_SHORT : answer), about);
+    uint32_t code[4], expected[] = {first, second};
+    CHECK_FILLED(gad_code(code, 4, field, quantity), answer, code, expected, about);
+    CHECK(gad_code(NULL, 0, field, quantity) == without_room(answer), about);
 }
 
 static void check_starred(void)
@@ -423,14 +408,9 @@ static void check_reports(void)
         char about[64];
         snprintf(about, sizeof about, "field %u, code %u %u", (unsigned)reports[i].field, (unsigned)reports[i].code[0], (unsigned)reports[i].code[1]);
         int64_t quantity[2];
-        fill(quantity, sizeof quantity);
-        size_t put = reports[i].answer > 0;
         const uint32_t *code = reports[i].cells > 0 ? reports[i].code : NULL;
-        CHECK(gad_report(quantity, 2, reports[i].field, code, reports[i].cells) == reports[i].answer, about);
-        if (put > 0)
-            CHECK(quantity[0] == reports[i].quantity, about);
-        CHECK(kept(quantity + put, (2 - put) * sizeof quantity[0]), about);
-        CHECK(gad_report(NULL, 0, reports[i].field, code, reports[i].cells) == (put ? -GAD_BUFFER_TOO_SHORT : reports[i].answer), about);
+        CHECK_FILLED(gad_report(quantity, 2, reports[i].field, code, reports[i].cells), reports[i].answer, quantity, &reports[i].quantity, about);
+        CHECK(gad_report(NULL, 0, reports[i].field, code, reports[i].cells) == without_room(reports[i].answer), about);
     }
 }
 
