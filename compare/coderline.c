@@ -1,29 +1,6 @@
 // Lines `code NAME QUANTITY` and `report NAME CODE..`; prints for each its number, the answer, and on 0 the code or the quantity.
-#include "coder.h"
+#include "fields.h"
 #include "stream.h"
-
-enum field {
-    LATITUDE,
-    LONGITUDE,
-    UNCERTAINTY,
-    ALTITUDE_UNCERTAINTY,
-    ALTITUDE_FIELD,
-    INNER_RADIUS,
-    OFFSET,
-    INCLUDED,
-    ORIENTATION,
-    BEARING,
-    HORIZONTAL_SPEED,
-    VERTICAL_SPEED,
-    UNCERTAINTY_SPEED,
-    CONFIDENCE,
-    FIELDS,
-};
-
-static const char *const names[FIELDS] = {
-    "latitude", "longitude", "uncertainty", "altitude-uncertainty", "altitude", "inner-radius", "offset",
-    "included", "orientation", "bearing", "horizontal-speed", "vertical-speed", "uncertainty-speed", "confidence",
-};
 
 static int take_word(const uint8_t **from, const uint8_t *end, const char *word)
 {
@@ -37,15 +14,10 @@ static int take_word(const uint8_t **from, const uint8_t *end, const char *word)
 // What a line says: the field, and one number (the quantity, or the code), or two (the sign before the code).
 struct asked {
     int report;
-    enum field field;
+    uint8_t field;
     int missing;
     struct number first, second;
 };
-
-static int has_sign(enum field field)
-{
-    return field == LATITUDE || field == ALTITUDE_FIELD || field == VERTICAL_SPEED;
-}
 
 static int parse_line(const uint8_t *line, size_t length, struct asked *asked)
 {
@@ -58,18 +30,18 @@ static int parse_line(const uint8_t *line, size_t length, struct asked *asked)
         asked->report = 0;
     else
         return 0;
-    int field = 0;
-    while (field < FIELDS && !take_word(&at, end, names[field]))
+    uint8_t field = 0;
+    while (field < GAD_FIELDS && !take_word(&at, end, field_names[field]))
         field++;
-    if (field == FIELDS)
+    if (field == GAD_FIELDS)
         return 0;
-    asked->field = (enum field)field;
-    asked->missing = !asked->report && (field == CONFIDENCE || field == UNCERTAINTY_SPEED) && end - at == 1 && *at == '-';
+    asked->field = field;
+    asked->missing = !asked->report && is_optional(field) && end - at == 1 && *at == '-';
     if (asked->missing)
         return 1;
     if (!take_number(&at, end, &asked->first))
         return 0;
-    if (asked->report && has_sign(asked->field)) {
+    if (asked->report && field_cells(field) == 2) {
         if (at == end)
             return 0;
         at++; // the space that ended the first number
@@ -86,163 +58,83 @@ static int64_t as_code(const struct number *number)
     return number->negative ? -(int64_t)size : (int64_t)size;
 }
 
-static enum answer report_line(const struct asked *asked, int *given, int64_t *value)
-{
-    int64_t first = as_code(&asked->first);
-    int64_t second = has_sign(asked->field) ? as_code(&asked->second) : 0;
-    uint32_t plain = 0;
-    int32_t narrow = 0;
-    struct optional optional = {1, 0};
+// What is answered: with DONE one or two numbers, of which GAD_MISSING is a minus sign.
+struct answered {
     enum answer answer;
-    *given = 1;
-    switch (asked->field) {
-    case LATITUDE:
-        return report_latitude(first, second, value);
-    case LONGITUDE:
-        return report_longitude(first, value);
-    case ALTITUDE_FIELD:
-        answer = report_altitude(first, second, &narrow);
-        *value = narrow;
-        return answer;
-    case VERTICAL_SPEED:
-        answer = report_vertical_speed(first, second, &narrow);
-        *value = narrow;
-        return answer;
-    case UNCERTAINTY_SPEED:
-        answer = report_uncertainty_speed(first, &optional);
-        *given = (int)optional.given;
-        *value = optional.value;
-        return answer;
-    case CONFIDENCE:
-        answer = report_confidence(first, &optional);
-        *given = (int)optional.given;
-        *value = optional.value;
-        return answer;
-    case UNCERTAINTY:
-        answer = report_uncertainty(first, &plain);
-        break;
-    case ALTITUDE_UNCERTAINTY:
-        answer = report_altitude_uncertainty(first, &plain);
-        break;
-    case INNER_RADIUS:
-        answer = report_inner_radius(first, &plain);
-        break;
-    case OFFSET:
-        answer = report_offset(first, &plain);
-        break;
-    case INCLUDED:
-        answer = report_included(first, &plain);
-        break;
-    case ORIENTATION:
-        answer = report_orientation(first, &plain);
-        break;
-    case BEARING:
-        answer = report_bearing(first, &plain);
-        break;
-    default:
-        answer = report_horizontal_speed(first, &plain);
-        break;
+    size_t count;
+    int64_t numbers[2];
+};
+
+static struct answered report_line(const struct asked *asked)
+{
+    struct answered answered = {.count = 1};
+    int64_t first = as_code(&asked->first), second = as_code(&asked->second), *quantity = answered.numbers;
+    uint32_t size = 0;
+    int32_t narrow = 0;
+    struct optional optional = {0, 0};
+    if (asked->field == GAD_FIELD_LATITUDE) {
+        answered.answer = report_latitude(first, second, quantity);
+    } else if (asked->field == GAD_FIELD_LONGITUDE) {
+        answered.answer = report_longitude(first, quantity);
+    } else if (field_cells(asked->field) == 2) {
+        answered.answer = (asked->field == GAD_FIELD_ALTITUDE ? report_altitude : report_vertical_speed)(first, second, &narrow);
+        *quantity = narrow;
+    } else if (is_optional(asked->field)) {
+        answered.answer = (asked->field == GAD_FIELD_CONFIDENCE ? report_confidence : report_uncertainty_speed)(first, &optional);
+        *quantity = optional_cell(optional);
+    } else {
+        answered.answer = simple_fields[asked->field].report(first, &size);
+        *quantity = size;
     }
-    *value = plain;
-    return answer;
+    return answered;
 }
 
-// The sign of the code, where it has one, and the code. 0 if the quantity doesn't fit the width in which it arrives.
-static int code_line(const struct asked *asked, enum answer *answer, uint32_t *sign, int64_t *value)
+// The quantity as a cell; 0 if it doesn't fit the width in which it arrives.
+static int take_quantity(const struct asked *asked, int64_t *quantity)
 {
-    int64_t wide = 0;
     int32_t narrow = 0;
-    uint32_t plain = 0, code = 0;
-    int32_t longitude = 0;
-    int readable;
-    if (asked->field == LATITUDE || asked->field == LONGITUDE)
-        readable = fits_signed64(&asked->first, &wide);
-    else if (asked->field == ALTITUDE_FIELD || asked->field == VERTICAL_SPEED)
-        readable = fits_signed32(&asked->first, &narrow);
-    else
-        readable = asked->missing || fits_unsigned32(&asked->first, &plain);
-    if (!readable)
-        return 0;
-    struct optional optional = {!asked->missing, plain};
-    switch (asked->field) {
-    case LATITUDE:
-        *answer = code_latitude(wide, sign, &code);
-        break;
-    case LONGITUDE:
-        *answer = code_longitude(wide, &longitude);
-        *value = longitude;
-        return 1;
-    case UNCERTAINTY:
-        *answer = code_uncertainty(plain, &code);
-        break;
-    case ALTITUDE_UNCERTAINTY:
-        *answer = code_altitude_uncertainty(plain, &code);
-        break;
-    case ALTITUDE_FIELD:
-        *answer = code_altitude(narrow, sign, &code);
-        break;
-    case INNER_RADIUS:
-        *answer = code_inner_radius(plain, &code);
-        break;
-    case OFFSET:
-        *answer = code_offset(plain, &code);
-        break;
-    case INCLUDED:
-        *answer = code_included(plain, &code);
-        break;
-    case ORIENTATION:
-        *answer = code_orientation(plain, &code);
-        break;
-    case BEARING:
-        *answer = code_bearing(plain, &code);
-        break;
-    case HORIZONTAL_SPEED:
-        *answer = code_horizontal_speed(plain, &code);
-        break;
-    case VERTICAL_SPEED:
-        *answer = code_vertical_speed(narrow, sign, &code);
-        break;
-    case UNCERTAINTY_SPEED:
-        *answer = code_uncertainty_speed(optional, &code);
-        break;
-    default:
-        *answer = code_confidence(optional, &code);
-        break;
+    uint32_t size = 0;
+    int fits = 1;
+    if (asked->field == GAD_FIELD_LATITUDE || asked->field == GAD_FIELD_LONGITUDE)
+        return fits_signed64(&asked->first, quantity);
+    if (asked->field == GAD_FIELD_ALTITUDE || asked->field == GAD_FIELD_VERTICAL_SPEED) {
+        fits = fits_signed32(&asked->first, &narrow);
+        *quantity = narrow;
+    } else if (asked->missing) {
+        *quantity = GAD_MISSING;
+    } else {
+        fits = fits_unsigned32(&asked->first, &size);
+        *quantity = size;
     }
-    *value = code;
-    return 1;
+    return fits;
+}
+
+static struct answered code_line(const struct asked *asked, int64_t quantity)
+{
+    uint32_t cells[2] = {0};
+    struct answered answered = {code_field(asked->field, quantity, cells), field_cells(asked->field), {0}};
+    answered.numbers[0] = asked->field == GAD_FIELD_LONGITUDE ? (int32_t)cells[0] : (int64_t)cells[0];
+    answered.numbers[1] = cells[1];
+    return answered;
 }
 
 static char *put_answer(char *at, const uint8_t *line, size_t length)
 {
     struct asked asked = {0};
-    enum answer answer = DONE;
-    uint32_t sign = 0;
-    int given = 1;
-    int64_t value = 0;
-    int readable = parse_line(line, length, &asked);
-    if (readable && asked.report)
-        answer = report_line(&asked, &given, &value);
-    else if (readable)
-        readable = code_line(&asked, &answer, &sign, &value);
+    int64_t quantity = 0;
+    if (!parse_line(line, length, &asked) || (!asked.report && !take_quantity(&asked, &quantity)))
+        return put_text(at, " -", 2);
+    struct answered answered = asked.report ? report_line(&asked) : code_line(&asked, quantity);
     *at++ = ' ';
-    if (!readable) {
-        *at++ = '-';
-        return at;
-    }
-    at = put_unsigned(at, answer);
-    if (answer != DONE)
-        return at;
-    if (!asked.report && has_sign(asked.field)) {
+    at = put_unsigned(at, answered.answer);
+    for (size_t i = 0; answered.answer == DONE && i < answered.count; i++) {
         *at++ = ' ';
-        at = put_unsigned(at, sign);
+        if (answered.numbers[i] == GAD_MISSING)
+            *at++ = '-';
+        else
+            at = put_signed(at, answered.numbers[i]);
     }
-    *at++ = ' ';
-    if (!given) {
-        *at++ = '-';
-        return at;
-    }
-    return put_signed(at, value);
+    return at;
 }
 
 int main(void)

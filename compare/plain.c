@@ -1,6 +1,7 @@
 #include "plain.h"
 
 #include "coder.h"
+#include "fields.h"
 
 #include <string.h>
 
@@ -60,11 +61,6 @@ PLAIN_WRITE(velocity, GAD_VELOCITY_CODES)
 
 // ---- Codes to quantities ----
 
-static inline int64_t optional_cell(struct optional optional)
-{
-    return optional.given ? (int64_t)optional.value : GAD_MISSING;
-}
-
 static void put_shape_quantities(const struct shape_quantities *q, int64_t *cells)
 {
     cells[GAD_TYPE] = q->type;
@@ -115,24 +111,6 @@ int64_t plain_report_velocity(int64_t *quantities, size_t quantity_cells, const 
 }
 
 // ---- Quantities to codes ----
-
-// Cells taken in the widths in which quantities arrive; `outside` is set by a cell that its width can't hold.
-static inline uint32_t take_unsigned(int64_t cell, int *outside)
-{
-    *outside |= cell < 0 || cell > UINT32_MAX;
-    return (uint32_t)cell;
-}
-
-static inline int32_t take_signed(int64_t cell, int *outside)
-{
-    *outside |= cell < INT32_MIN || cell > INT32_MAX;
-    return (int32_t)cell;
-}
-
-static inline struct optional take_optional(int64_t cell, int *outside)
-{
-    return cell == GAD_MISSING ? (struct optional){0, 0} : (struct optional){1, take_unsigned(cell, outside)};
-}
 
 // A type or a count that 32 bits can't hold is as good as the largest that they can.
 static inline uint32_t take_number(int64_t cell)
@@ -242,57 +220,6 @@ int64_t plain_choose(uint8_t *out, size_t room, const int64_t *request, size_t r
 }
 
 // ---- Single codes and quantities ----
-
-// The fields whose code is one number and whose quantity is unsigned and always given.
-static const struct simple_field {
-    enum answer (*code)(uint32_t quantity, uint32_t *code);
-    enum answer (*report)(int64_t code, uint32_t *quantity);
-} simple_fields[GAD_FIELDS] = {
-    [GAD_FIELD_UNCERTAINTY] = {code_uncertainty, report_uncertainty},
-    [GAD_FIELD_ALTITUDE_UNCERTAINTY] = {code_altitude_uncertainty, report_altitude_uncertainty},
-    [GAD_FIELD_INNER_RADIUS] = {code_inner_radius, report_inner_radius},
-    [GAD_FIELD_OFFSET] = {code_offset, report_offset},
-    [GAD_FIELD_INCLUDED] = {code_included, report_included},
-    [GAD_FIELD_ORIENTATION] = {code_orientation, report_orientation},
-    [GAD_FIELD_BEARING] = {code_bearing, report_bearing},
-    [GAD_FIELD_HORIZONTAL_SPEED] = {code_horizontal_speed, report_horizontal_speed},
-};
-
-static size_t field_cells(uint8_t field)
-{
-    return field == GAD_FIELD_LATITUDE || field == GAD_FIELD_ALTITUDE || field == GAD_FIELD_VERTICAL_SPEED ? 2 : 1;
-}
-
-static enum answer code_longitude_cell(int64_t quantity, uint32_t *cell)
-{
-    int32_t code = 0;
-    enum answer answer = code_longitude(quantity, &code);
-    *cell = (uint32_t)code;
-    return answer;
-}
-
-static enum answer code_field(uint8_t field, int64_t quantity, uint32_t cells[2])
-{
-    int outside = 0;
-    if (field == GAD_FIELD_LATITUDE)
-        return code_latitude(quantity, &cells[0], &cells[1]);
-    if (field == GAD_FIELD_LONGITUDE)
-        return code_longitude_cell(quantity, cells);
-    if (field == GAD_FIELD_ALTITUDE || field == GAD_FIELD_VERTICAL_SPEED) {
-        int32_t narrow = take_signed(quantity, &outside);
-        if (outside)
-            return OUT_OF_RANGE;
-        return (field == GAD_FIELD_ALTITUDE ? code_altitude : code_vertical_speed)(narrow, &cells[0], &cells[1]);
-    }
-    if (field == GAD_FIELD_UNCERTAINTY_SPEED || field == GAD_FIELD_CONFIDENCE) {
-        struct optional optional = take_optional(quantity, &outside);
-        if (outside)
-            return OUT_OF_RANGE;
-        return (field == GAD_FIELD_CONFIDENCE ? code_confidence : code_uncertainty_speed)(optional, cells);
-    }
-    uint32_t size = take_unsigned(quantity, &outside);
-    return outside ? OUT_OF_RANGE : simple_fields[field].code(size, cells);
-}
 
 int64_t plain_code(uint32_t *code, size_t code_cells, uint8_t field, int64_t quantity)
 {
