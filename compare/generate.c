@@ -1,5 +1,6 @@
 // Test inputs from a seed: frames for the lister, requests for the chooser, lines for the coder. See usage() at the end.
 #include "coder.h"
+#include "fields.h"
 #include "some.h"
 
 #include <stdarg.h>
@@ -21,6 +22,7 @@ static void put_broken(void)
 {
     uint8_t octets[128];
     static const uint32_t lengths[] = {0, 1, 94, 95, 255, 256, 258, 265, 349, 512, 65535};
+    static const uint8_t versions[] = {0, 2, 3, 128, 129, 255}, kinds[] = {2, 3, 128, 129, 255};
     fill_octets(octets, sizeof octets);
     size_t count = sizeof octets;
     octets[0] = 0;
@@ -31,22 +33,15 @@ static void put_broken(void)
     case 0:
         count = 1;
         break;
-    case 1: {
-        uint32_t length = PICK(lengths);
-        octets[0] = (uint8_t)(length >> 8);
-        octets[1] = (uint8_t)length;
+    case 1:
+        put_bits(octets, 0, 16, PICK(lengths));
         break;
-    }
-    case 2: {
-        static const uint8_t versions[] = {0, 2, 3, 128, 129, 255};
+    case 2:
         octets[2] = PICK(versions);
         break;
-    }
-    case 3: {
-        static const uint8_t kinds[] = {2, 3, 128, 129, 255};
+    case 3:
         octets[3] = PICK(kinds);
         break;
-    }
     case 4: // the input ends inside the frame
         count = 2 + below(octets[1]);
         break;
@@ -60,49 +55,55 @@ static void put_broken(void)
     fwrite(octets, 1, count, stdout);
 }
 
-// Three good frames, then one broken in way number `way`, then, unless the input ends in it, good frames that must not be listed.
+static void put_good_frames(void)
+{
+    static const uint8_t point[] = {0, 9, 1, 0, 0x00, 0x40, 0, 0, 0xC0, 0, 0};
+    for (int i = 0; i < 3; i++)
+        fwrite(point, 1, sizeof point, stdout);
+}
+
+// The octets that are there of a frame in which the input ends, by the number of the place where it does; 0 when there is no such place.
+static size_t cut_frame(uint64_t place, uint8_t *octets)
+{
+    static const uint8_t lengths[] = {2, 3, 6, 9, 93};
+    for (size_t i = 0; i < sizeof lengths; i++) {
+        if (place <= lengths[i]) {
+            octets[1] = lengths[i];
+            return 1 + (size_t)place;
+        }
+        place -= lengths[i] + 1u;
+    }
+    return 0;
+}
+
+// Good frames, then one broken in way number `way`, then, unless the input ends in it, good frames that must not be listed.
 // 0 when there is no such way.
 static int broken_end(uint64_t way)
 {
-    static const uint8_t point[] = {0, 9, 1, 0, 0x00, 0x40, 0, 0, 0xC0, 0, 0};
+    static const uint32_t large[] = {257, 258, 265, 349, 350, 512, 32770, 65535};
     static uint8_t octets[65540];
-    static const uint8_t cut[] = {2, 3, 6, 9, 93};
-    size_t count = 0;
+    enum { VERSIONS = 256 + COUNT(large), KINDS = VERSIONS + 256, CUTS = KINDS + 256 };
+    size_t count = 11;
     octets[1] = 9;
     octets[2] = 1;
-    if (way < 256 + 8) { // a length outside 2..93, with all its octets there
-        static const uint32_t large[] = {257, 258, 265, 349, 350, 512, 32770, 65535};
+    if (way < VERSIONS) { // a length outside 2..93, with all its octets there
         uint32_t length = way < 256 ? (uint32_t)way : large[way - 256];
-        octets[0] = (uint8_t)(length >> 8);
-        octets[1] = (uint8_t)length;
+        put_bits(octets, 0, 16, length);
         octets[3] = length % 2;
         count = 2 + length;
-    } else if (way < 264 + 256) { // a version; 1 among them is right
-        octets[2] = (uint8_t)(way - 264);
-        count = 11;
-    } else if (way < 520 + 256) { // a kind; 0 and 1 among them are right
-        octets[3] = (uint8_t)(way - 520);
-        count = 11;
-    } else { // the input ends inside the frame
-        way -= 776;
-        size_t i = 0;
-        while (i < sizeof cut && way > cut[i]) {
-            way -= cut[i] + 1u;
-            i++;
-        }
-        if (i == sizeof cut)
+    } else if (way < KINDS) { // a version; 1 among them is right
+        octets[2] = (uint8_t)(way - VERSIONS);
+    } else if (way < CUTS) { // a kind; 0 and 1 among them are right
+        octets[3] = (uint8_t)(way - KINDS);
+    } else {
+        count = cut_frame(way - CUTS, octets);
+        if (count == 0)
             return 0;
-        octets[1] = cut[i];
-        for (int j = 0; j < 3; j++)
-            fwrite(point, 1, sizeof point, stdout);
-        fwrite(octets, 1, 1 + way, stdout);
-        return 1;
     }
-    for (int j = 0; j < 3; j++)
-        fwrite(point, 1, sizeof point, stdout);
+    put_good_frames();
     fwrite(octets, 1, count, stdout);
-    for (int j = 0; j < 3; j++)
-        fwrite(point, 1, sizeof point, stdout);
+    if (way < CUTS)
+        put_good_frames();
     return 1;
 }
 
@@ -216,12 +217,54 @@ static void put_line(void)
     text_length = 0;
 }
 
-// Spoils the text in one of many ways; most make it unreadable, a few (zeros put before a number) don't.
-static void spoil(void)
+// Puts zeros before the last number, to about the longest line allowed.
+static void put_zeros(void)
+{
+    size_t last = text_length;
+    while (last > 0 && text[last - 1] != ' ' && text[last - 1] != '-')
+        last--;
+    size_t wanted = 4094 + below(6);
+    if (wanted > text_length && last < text_length) {
+        size_t more = wanted - text_length;
+        memmove(text + last + more, text + last, text_length - last);
+        memset(text + last, '0', more);
+        text_length += more;
+    }
+}
+
+// Puts another number in the place of one field.
+static void replace_field(void)
 {
     static const char *const numbers[] = {"9223372036854775807", "9223372036854775808", "-9223372036854775808", "-9223372036854775809",
         "18446744073709551615", "18446744073709551616", "2147483647", "2147483648", "-2147483648", "-2147483649", "4294967295", "4294967296",
         "-1", "-0", "00", "007", "+7", "--7", "1-", "1e3", "0x10", "1.0", "1,000", "", "-", "a", "99999999999999999999999999999999", " "};
+    uint32_t fields = 1;
+    for (size_t i = 0; i < text_length; i++)
+        fields += text[i] == ' ';
+    uint32_t chosen = below(fields);
+    size_t from = 0;
+    for (; chosen > 0; from++)
+        chosen -= text[from] == ' ';
+    size_t to = from;
+    while (to < text_length && text[to] != ' ')
+        to++;
+    const char *number = PICK(numbers);
+    size_t length = strlen(number);
+    memmove(text + from + length, text + to, text_length - to);
+    memcpy(text + from, number, length);
+    text_length = text_length - (to - from) + length;
+}
+
+static void make_very_long(void)
+{
+    size_t wanted = 4090 + below(12000);
+    memset(text + text_length, one_in(2) ? ' ' : '5', wanted - text_length);
+    text_length = wanted;
+}
+
+// Spoils the text in one of many ways; most make it unreadable, a few (zeros put before a number) don't.
+static void spoil(void)
+{
     size_t at = text_length == 0 ? 0 : below((uint32_t)text_length);
     switch (below(12)) {
     case 0: // another octet
@@ -252,45 +295,17 @@ static void spoil(void)
     case 5: // nothing left
         text_length = one_in(2) ? 0 : at;
         break;
-    case 6: // zeros before the last number, to about the longest line allowed
-        if (one_in(8)) {
-            size_t last = text_length;
-            while (last > 0 && text[last - 1] != ' ' && text[last - 1] != '-')
-                last--;
-            size_t wanted = 4094 + below(6);
-            if (wanted > text_length && last < text_length) {
-                size_t more = wanted - text_length;
-                memmove(text + last + more, text + last, text_length - last);
-                memset(text + last, '0', more);
-                text_length += more;
-            }
-        }
+    case 6:
+        if (one_in(8))
+            put_zeros();
         break;
-    case 7: // very long
-        if (one_in(8)) {
-            size_t wanted = 4090 + below(12000);
-            memset(text + text_length, one_in(2) ? ' ' : '5', wanted - text_length);
-            text_length = wanted;
-        }
+    case 7:
+        if (one_in(8))
+            make_very_long();
         break;
-    default: { // another number in the place of one field
-        uint32_t fields = 1;
-        for (size_t i = 0; i < text_length; i++)
-            fields += text[i] == ' ';
-        uint32_t chosen = below(fields);
-        size_t from = 0;
-        for (; chosen > 0; from++)
-            chosen -= text[from] == ' ';
-        size_t to = from;
-        while (to < text_length && text[to] != ' ')
-            to++;
-        const char *number = PICK(numbers);
-        size_t length = strlen(number);
-        memmove(text + from + length, text + to, text_length - to);
-        memcpy(text + from, number, length);
-        text_length = text_length - (to - from) + length;
+    default:
+        replace_field();
         break;
-    }
     }
 }
 
@@ -325,54 +340,64 @@ static void requests(const char *list, uint64_t seed, uint64_t count)
     }
 }
 
+// Around the entry i / 3 of a table: one less, the entry, one more.
+static int64_t around_entry(const uint32_t table[128], uint64_t i)
+{
+    int64_t r = (int64_t)table[i / 3] - 1 + (int64_t)(i % 3);
+    return r < 0 ? 0 : r;
+}
+
+// A circle, an ellipse of equal axes, a semi-minor, an ellipsoid.
+static void say_radius(uint32_t way, int64_t r)
+{
+    if (way == 0)
+        say("1 1 - %lld - - - -", (long long)r);
+    else if (way == 1)
+        say("1 1 - %lld %lld 0 - -", (long long)r, (long long)r);
+    else if (way == 2)
+        say("1 1 - %u %lld 179999 - 100", (unsigned)radius_table[127], (long long)r);
+    else
+        say("1 1 -1 %lld %lld 999 0 1", (long long)r, (long long)(r > 0 ? r - 1 : 0));
+}
+
+// Pairs of codes near each other, at both ends of each code; a semi-minor above the semi-major among them.
+static void say_axes(uint32_t i)
+{
+    uint32_t k = 1 + i / 32, down = i / 4 % 8, j = k > down ? k - down : 0;
+    int64_t major = i & 1 ? radius_table[k] : (int64_t)radius_table[k - 1] + 1;
+    int64_t minor = i & 2 || j == 0 ? radius_table[j] : (int64_t)radius_table[j - 1] + 1;
+    say("%lld %lld - %lld %lld 90000 - -", (long long)-NINETY_DEGREES, (long long)HALF_TURN, (long long)major, (long long)minor);
+}
+
 // Request i of the ordered ones; 0 when there is none.
 static int request_in_order(uint64_t i)
 {
-    if (i < 256) { // every combination of missing fields
-        static const int64_t values[8] = {45000000000, -90000000000, 12345, 57274, 51159, 30000, 2279, 67};
-        for (uint32_t f = 0; f < 8; f++)
+    static const int64_t values[REQUEST_FIELDS] = {45000000000, -90000000000, 12345, 57274, 51159, 30000, 2279, 67};
+    enum { FORMS = 256, RADII = 128 * 3 * 4, HEIGHTS = 128 * 3, ORIENTATIONS = 182 * 3, CONFIDENCES = 103, PAIRS = 127 * 8 * 4 };
+    if (i < FORMS) { // every combination of missing fields
+        for (uint32_t f = 0; f < REQUEST_FIELDS; f++)
             say_field((int)(i >> f & 1), values[f]);
         return 1;
     }
-    i -= 256;
-    if (i < 128 * 3 * 4) { // around every radius: circle, ellipse of equal axes, semi-minor, ellipsoid
-        int64_t r = (int64_t)radius_table[i / 12] - 1 + (int64_t)(i % 3);
-        uint32_t way = (uint32_t)(i / 3 % 4);
-        if (r < 0)
-            r = 0;
-        if (way == 0)
-            say("1 1 - %lld - - - -", (long long)r);
-        else if (way == 1)
-            say("1 1 - %lld %lld 0 - -", (long long)r, (long long)r);
-        else if (way == 2)
-            say("1 1 - %u %lld 179999 - 100", (unsigned)radius_table[127], (long long)r);
-        else
-            say("1 1 -1 %lld %lld 999 0 1", (long long)r, (long long)(r > 0 ? r - 1 : 0));
+    if ((i -= FORMS) < RADII) {
+        say_radius((uint32_t)(i / 3 % 4), around_entry(radius_table, i / 12 * 3 + i % 3));
         return 1;
     }
-    i -= 128 * 3 * 4;
-    if (i < 128 * 3) { // around every altitude uncertainty
-        int64_t h = (int64_t)height_table[i / 3] - 1 + (int64_t)(i % 3);
-        say("-1 -1 0 0 - - %lld -", (long long)(h < 0 ? 0 : h));
+    if ((i -= RADII) < HEIGHTS) {
+        say("-1 -1 0 0 - - %lld -", (long long)around_entry(height_table, i));
         return 1;
     }
-    i -= 128 * 3;
-    if (i < 182 * 3) { // around every orientation
+    if ((i -= HEIGHTS) < ORIENTATIONS) { // around every degree
         int64_t a = 1000 * (int64_t)(i / 3) - 1 + (int64_t)(i % 3);
         say("-1 -1 - 5000 1 %lld - -", (long long)(a < 0 ? 0 : a));
         return 1;
     }
-    i -= 182 * 3;
-    if (i < 103) { // every confidence
+    if ((i -= ORIENTATIONS) < CONFIDENCES) {
         say("0 0 - 7 - - - %llu", (unsigned long long)i);
         return 1;
     }
-    i -= 103;
-    if (i < 127 * 8 * 4) { // pairs of codes near each other, at both ends of each code; a semi-minor above the semi-major among them
-        uint32_t k = 1 + (uint32_t)(i / 32), down = (uint32_t)(i / 4 % 8), j = k > down ? k - down : 0;
-        int64_t major = i & 1 ? radius_table[k] : (int64_t)radius_table[k - 1] + 1;
-        int64_t minor = i & 2 || j == 0 ? radius_table[j] : (int64_t)radius_table[j - 1] + 1;
-        say("%lld %lld - %lld %lld 90000 - -", (long long)-NINETY_DEGREES, (long long)HALF_TURN, (long long)major, (long long)minor);
+    if ((i -= CONFIDENCES) < PAIRS) {
+        say_axes((uint32_t)i);
         return 1;
     }
     return 0;
@@ -387,22 +412,19 @@ static void every_request(const char *list)
 
 // ---- Lines for the coder ----
 
-static const char *const names[] = {"latitude", "longitude", "uncertainty", "altitude-uncertainty", "altitude", "inner-radius", "offset",
-    "included", "orientation", "bearing", "horizontal-speed", "vertical-speed", "uncertainty-speed", "confidence"};
-
 static void some_line(void)
 {
-    uint32_t field = below(14);
+    uint8_t field = (uint8_t)below(GAD_FIELDS);
     if (one_in(2)) {
-        say("code %s ", names[field]);
-        if (field >= 12 && one_in(16))
+        say("code %s ", field_names[field]);
+        if (is_optional(field) && one_in(16))
             say("-");
         else
             say("%lld", (long long)some_quantity(field));
         return;
     }
-    say("report %s ", names[field]);
-    if (field == 0 || field == 4 || field == 11) {
+    say("report %s ", field_names[field]);
+    if (field_cells(field) == 2) {
         static const int64_t odd[] = {2, 3, -1, 255, 256, 4294967296};
         say("%lld ", (long long)(one_in(50) ? PICK(odd) : below(2)));
     }
@@ -431,36 +453,43 @@ static void lines(uint64_t seed, uint64_t count)
     }
 }
 
+static void report_every_code(uint8_t field)
+{
+    int has_sign = field_cells(field) == 2;
+    for (int64_t code = -2; code <= last_codes[field] + 200; code++)
+        for (int sign = 0; sign <= has_sign; sign++) {
+            say("report %s ", field_names[field]);
+            if (has_sign)
+                say("%d ", sign);
+            say("%lld", (long long)code);
+            put_line();
+        }
+}
+
+static void code_every_boundary(uint8_t field)
+{
+    static const int64_t steps[GAD_FIELDS] = {0, 0, 0, 0, 1000, 5000, 2000, 2000, 1000, 1000, 500, 500, 1000, 1};
+    for (int64_t code = 0; code <= 2 * last_codes[field] + 4; code++)
+        for (int64_t by = -1; by <= 1; by++) {
+            int64_t quantity = steps[field] * code + by;
+            if (steps[field] == 0)
+                quantity = (int64_t)(field == GAD_FIELD_UNCERTAINTY ? radius_table : height_table)[code < 128 ? code : 127] + by;
+            say("code %s %lld", field_names[field], (long long)quantity);
+            put_line();
+            if (field_cells(field) == 2) {
+                say("code %s %lld", field_names[field], (long long)-quantity);
+                put_line();
+            }
+        }
+}
+
 // Every code of the fields up to 16 bits reported, with a few beyond, and quantities around every boundary coded.
 static void every_line(void)
 {
-    static const int64_t most[] = {0, 0, 127, 127, 32767, 65535, 179, 179, 179, 359, 65535, 255, 255, 100};
-    for (uint32_t field = 2; field < 14; field++) {
-        int has_sign = field == 4 || field == 11;
-        for (int64_t code = -2; code <= most[field] + 200; code++)
-            for (int sign = 0; sign <= has_sign; sign++) {
-                if (has_sign)
-                    say("report %s %d %lld", names[field], sign, (long long)code);
-                else
-                    say("report %s %lld", names[field], (long long)code);
-                put_line();
-            }
-    }
-    for (uint32_t field = 2; field < 14; field++) {
-        int64_t steps[] = {0, 0, 0, 0, 1000, 5000, 2000, 2000, 1000, 1000, 500, 500, 1000, 1};
-        for (int64_t code = 0; code <= 2 * most[field] + 4; code++)
-            for (int64_t by = -1; by <= 1; by++) {
-                int64_t quantity = steps[field] * code + by;
-                if (field <= 3)
-                    quantity = (int64_t)(field == 2 ? radius_table : height_table)[code < 128 ? code : 127] + by;
-                say("code %s %lld", names[field], (long long)quantity);
-                put_line();
-                if (field == 4 || field == 11) {
-                    say("code %s %lld", names[field], (long long)-quantity);
-                    put_line();
-                }
-            }
-    }
+    for (uint8_t field = GAD_FIELD_UNCERTAINTY; field < GAD_FIELDS; field++)
+        report_every_code(field);
+    for (uint8_t field = GAD_FIELD_UNCERTAINTY; field < GAD_FIELDS; field++)
+        code_every_boundary(field);
 }
 
 static int usage(void)

@@ -2,6 +2,7 @@
 #define _POSIX_C_SOURCE 200809L // clock_gettime
 #include "chance.h"
 #include "coder.h"
+#include "median.h"
 #include "plain.h"
 #include "some.h"
 
@@ -62,8 +63,7 @@ static void prepare_single(size_t i)
 static void prepare_request(size_t i)
 {
     struct wanted wanted = some_request();
-    for (uint32_t cell = 0; cell < GAD_REQUEST; cell++)
-        requests[i][cell] = wanted.given >> cell & 1 ? wanted.value[cell] : GAD_MISSING;
+    put_request(wanted.given, wanted.value, requests[i]);
 }
 
 static void prepare_inputs(void)
@@ -147,8 +147,6 @@ static const struct race {
 
 // ---- Time ----
 
-enum { MOST_REPEATS = 101 };
-
 static double nanoseconds_now(void)
 {
     struct timespec now;
@@ -163,18 +161,6 @@ static double nanoseconds_of(worker *work, int clear)
     sink = work(clear);
     (void)sink;
     return nanoseconds_now() - start;
-}
-
-static int by_size(const void *left, const void *right)
-{
-    double a = *(const double *)left, b = *(const double *)right;
-    return (a > b) - (a < b);
-}
-
-static double median(double *times, size_t count)
-{
-    qsort(times, count, sizeof times[0], by_size);
-    return times[count / 2];
 }
 
 // Medians of both sides. In each repeat they take turns with all items, for about 20 ms each, so that what else the machine does hits both.

@@ -23,8 +23,7 @@ void request_forms(void)
     static const int64_t asked[GAD_REQUEST] = {45000000000, -90000000000, 12345, 57274, 51159, 30000, 2279, 67};
     for (uint32_t given = 0; given < 1u << GAD_REQUEST; given++) {
         int64_t request[GAD_REQUEST];
-        for (uint32_t i = 0; i < GAD_REQUEST; i++)
-            request[i] = given >> i & 1 ? asked[i] : GAD_MISSING;
+        put_request(given, asked, request);
         struct call call = {.function = CHOOSE, .given = request, .given_cells = GAD_REQUEST};
         for (uint32_t subset = 0; subset < REQUEST_LISTS; subset++)
             for (call.room = 0; call.room < 16; call.room++) {
@@ -40,8 +39,7 @@ void requests_by_chance(void)
 {
     struct wanted wanted = some_request();
     int64_t request[GAD_REQUEST];
-    for (uint32_t i = 0; i < GAD_REQUEST; i++)
-        request[i] = wanted.given >> i & 1 ? wanted.value[i] : GAD_MISSING;
+    put_request(wanted.given, wanted.value, request);
     struct call call = {.function = CHOOSE, .given = request, .given_cells = GAD_REQUEST, .room = one_in(4) ? below(16) : 14, .list = some_list()};
     hold(&call, NULL);
 }

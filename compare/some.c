@@ -277,11 +277,11 @@ int64_t some_quantity(uint32_t field)
     }
 }
 
-// The largest code of each field's octets, and a few numbers beyond.
+const int64_t last_codes[GAD_FIELDS] = {8388607, 8388607, 127, 127, 32767, 65535, 179, 179, 179, 359, 65535, 255, 255, 100};
+
 int64_t some_code_number(uint32_t field)
 {
-    static const int64_t most[] = {8388607, 8388607, 127, 127, 32767, 65535, 179, 179, 179, 359, 65535, 255, 255, 100};
-    int64_t limit = most[field];
+    int64_t limit = last_codes[field];
     if (one_in(8)) {
         int64_t odd[] = {0, 1, limit - 1, limit, limit + 1, limit + 2, 2 * limit + 1, 255, 256, 65535, 65536, 16777215, 16777216, 4294967295,
             4294967296, INT64_MAX, -1, -limit, -limit - 1, -limit - 2, -2147483648, INT64_MIN};
@@ -338,4 +338,10 @@ struct wanted some_request(void)
     wanted.value[6] = some_entry(height_table);
     wanted.value[7] = some_confidence();
     return wanted;
+}
+
+void put_request(uint32_t given, const int64_t value[REQUEST_FIELDS], int64_t cells[REQUEST_FIELDS])
+{
+    for (uint32_t i = 0; i < REQUEST_FIELDS; i++)
+        cells[i] = given >> i & 1 ? value[i] : GAD_MISSING;
 }

@@ -35,7 +35,8 @@ size_t damage(uint8_t *message, size_t length);
 // ---- Quantities and codes, by the numbers that include/gad.h gives the fields ----
 
 int64_t some_quantity(uint32_t field);
-int64_t some_code_number(uint32_t field);
+int64_t some_code_number(uint32_t field); // a few are beyond the field
+extern const int64_t last_codes[];
 
 // ---- Requests ----
 
@@ -47,5 +48,6 @@ struct wanted {
 };
 
 struct wanted some_request(void);
+void put_request(uint32_t given, const int64_t value[REQUEST_FIELDS], int64_t cells[REQUEST_FIELDS]); // GAD_MISSING for what isn't given
 
 #endif

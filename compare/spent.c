@@ -1,5 +1,7 @@
 // User and system seconds of programs on one input, median of repeats in turn: spent INPUT REPEATS PROGRAM..
 #define _DEFAULT_SOURCE // wait4
+#include "median.h"
+
 #include <fcntl.h>
 #include <stdio.h>
 #include <stdlib.h>
@@ -7,7 +9,7 @@
 #include <sys/wait.h>
 #include <unistd.h>
 
-enum { MOST_REPEATS = 101, MOST_PROGRAMS = 4 };
+enum { MOST_PROGRAMS = 4 };
 
 static double seconds_of(struct timeval time)
 {
@@ -33,12 +35,6 @@ static double run(const char *program, const char *input)
     return seconds_of(used.ru_utime) + seconds_of(used.ru_stime);
 }
 
-static int by_size(const void *left, const void *right)
-{
-    double a = *(const double *)left, b = *(const double *)right;
-    return (a > b) - (a < b);
-}
-
 int main(int count, char **argument)
 {
     static double times[MOST_PROGRAMS][MOST_REPEATS];
@@ -53,9 +49,7 @@ int main(int count, char **argument)
             if (i >= 0)
                 times[program][i] = seconds;
         }
-    for (int program = 0; program < programs; program++) {
-        qsort(times[program], (size_t)repeats, sizeof times[program][0], by_size);
-        printf("%.6f%c", times[program][repeats / 2], program + 1 < programs ? ' ' : '\n');
-    }
+    for (int program = 0; program < programs; program++)
+        printf("%.6f%c", median(times[program], (size_t)repeats), program + 1 < programs ? ' ' : '\n');
     return 0;
 }
