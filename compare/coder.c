@@ -454,8 +454,6 @@ static inline enum answer read_fields(const uint8_t *message, uint32_t type, str
         shape->included = message[11];
         shape->confidence = message[12] & 127;
         break;
-    default:
-        break;
     }
     return DONE;
 }
@@ -627,8 +625,6 @@ static inline void write_fields(uint8_t *buffer, uint32_t type, const struct sha
         buffer[10] = (uint8_t)shape->offset;
         buffer[11] = (uint8_t)shape->included;
         buffer[12] = (uint8_t)shape->confidence;
-        break;
-    default:
         break;
     }
 }

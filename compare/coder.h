@@ -19,7 +19,6 @@ enum answer {
     TOO_UNCERTAIN = 8,
     NO_SHAPE = 9,
     SHORT_BUFFER = 10,
-    BROKEN_FRAME = 11,
 };
 
 enum shape_type {

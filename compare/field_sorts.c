@@ -3,8 +3,6 @@
 #include "some.h"
 #include "sorts.h"
 
-#include <string.h>
-
 static void code_single(uint32_t field, int64_t quantity, size_t room)
 {
     struct call call = {.function = CODE, .room = room, .field = (uint8_t)field, .quantity = quantity};

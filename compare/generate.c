@@ -217,6 +217,13 @@ static void put_line(void)
     text_length = 0;
 }
 
+// Moves the text that starts at `from` to `to`.
+static void move_rest(size_t from, size_t to)
+{
+    memmove(text + to, text + from, text_length - from);
+    text_length = text_length - from + to;
+}
+
 // Puts zeros before the last number, to about the longest line allowed.
 static void put_zeros(void)
 {
@@ -226,9 +233,8 @@ static void put_zeros(void)
     size_t wanted = 4094 + below(6);
     if (wanted > text_length && last < text_length) {
         size_t more = wanted - text_length;
-        memmove(text + last + more, text + last, text_length - last);
+        move_rest(last, last + more);
         memset(text + last, '0', more);
-        text_length += more;
     }
 }
 
@@ -249,10 +255,8 @@ static void replace_field(void)
     while (to < text_length && text[to] != ' ')
         to++;
     const char *number = PICK(numbers);
-    size_t length = strlen(number);
-    memmove(text + from + length, text + to, text_length - to);
-    memcpy(text + from, number, length);
-    text_length = text_length - (to - from) + length;
+    move_rest(to, from + strlen(number));
+    memcpy(text + from, number, strlen(number));
 }
 
 static void make_very_long(void)
@@ -273,24 +277,19 @@ static void spoil(void)
             text[at] = 'n';
         break;
     case 1: // an octet gone
-        if (text_length > 0) {
-            memmove(text + at, text + at + 1, text_length - at - 1);
-            text_length--;
-        }
+        if (text_length > 0)
+            move_rest(at + 1, at);
         break;
     case 2: // an octet doubled
-        if (text_length > 0) {
-            memmove(text + at + 1, text + at, text_length - at);
-            text_length++;
-        }
+        if (text_length > 0)
+            move_rest(at, at + 1);
         break;
     case 3: // something after
         say("%s", (const char *[]){" ", " 0", " -", "\r", "\t", " x", "  "}[below(7)]);
         break;
     case 4: // something before
-        memmove(text + 1, text, text_length);
+        move_rest(0, 1);
         text[0] = " 0-\tx"[below(5)];
-        text_length++;
         break;
     case 5: // nothing left
         text_length = one_in(2) ? 0 : at;

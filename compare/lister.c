@@ -143,7 +143,7 @@ int main(void)
             whole = 2 <= length && length <= 93 && have(2 + length);
         }
         const uint8_t *frame = input + input_start;
-        if (!whole || frame[2] != 1 || frame[3] > 1) {
+        if (!whole || frame[2] != 1 || frame[3] > 1) { // broken: 11
             output_end = put_text(at, " - 11\n", 6);
             break;
         }

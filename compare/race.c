@@ -6,7 +6,6 @@
 #include "plain.h"
 #include "some.h"
 
-#include <inttypes.h>
 #include <math.h>
 #include <stdio.h>
 #include <stdlib.h>
@@ -126,22 +125,24 @@ WORKS(gad)
 WORKS(plain)
 WORK(logarithm_codes_radii, uint32_t, 2, logarithm_code(out, 2, GAD_FIELD_UNCERTAINTY, radii[i]))
 
+#define RACE(name, works) {name, {gad_##works, plain_##works}}
+
 static const struct race {
     const char *name;
     worker *workers[2]; // the library's and the other's
 } races[] = {
-    {"read shapes", {gad_reads_shapes, plain_reads_shapes}},
-    {"read velocities", {gad_reads_velocities, plain_reads_velocities}},
-    {"write shapes", {gad_writes_shapes, plain_writes_shapes}},
-    {"write velocities", {gad_writes_velocities, plain_writes_velocities}},
-    {"report shapes", {gad_reports_shapes, plain_reports_shapes}},
-    {"report velocities", {gad_reports_velocities, plain_reports_velocities}},
-    {"code shapes", {gad_codes_shapes, plain_codes_shapes}},
-    {"code velocities", {gad_codes_velocities, plain_codes_velocities}},
-    {"choose", {gad_chooses, plain_chooses}},
-    {"code single quantities", {gad_codes_singles, plain_codes_singles}},
-    {"report single codes", {gad_reports_singles, plain_reports_singles}},
-    {"code uncertainties", {gad_codes_radii, plain_codes_radii}},
+    RACE("read shapes", reads_shapes),
+    RACE("read velocities", reads_velocities),
+    RACE("write shapes", writes_shapes),
+    RACE("write velocities", writes_velocities),
+    RACE("report shapes", reports_shapes),
+    RACE("report velocities", reports_velocities),
+    RACE("code shapes", codes_shapes),
+    RACE("code velocities", codes_velocities),
+    RACE("choose", chooses),
+    RACE("code single quantities", codes_singles),
+    RACE("report single codes", reports_singles),
+    RACE("code uncertainties", codes_radii),
     {"code uncertainties, logarithm", {gad_codes_radii, logarithm_codes_radii}},
 };
 

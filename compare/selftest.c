@@ -68,63 +68,45 @@ static void clear_spare(uint8_t *message, uint32_t kind)
             message[sevens[type][i]] &= 127;
 }
 
-static int same(const uint8_t *left, const uint8_t *right, size_t length)
-{
-    return memcmp(left, right, length) == 0;
-}
-
 // What a writer left in a buffer of 0xA5: exactly `length` octets of `message`.
 static int written(const uint8_t *buffer, const uint8_t *message, size_t length)
 {
     for (size_t i = length; i < 100; i++)
         if (buffer[i] != 0xA5)
             return 0;
-    return same(buffer, message, length);
+    return memcmp(buffer, message, length) == 0;
 }
 
-// A message that is written again: what it is with its spare bits zero, and a buffer that shows what was touched.
-struct rewriting {
-    uint8_t message[100];
-    uint8_t buffer[100];
-    size_t length;
-    size_t count;
-};
-
-static struct rewriting rewriting_of(const uint8_t *octets, size_t length, uint32_t kind)
+static enum answer write_record(uint32_t kind, const void *record, uint8_t *buffer, size_t room, size_t *length)
 {
-    struct rewriting r = {.length = length, .count = 99};
-    memcpy(r.message, octets, length);
-    clear_spare(r.message, kind);
-    memset(r.buffer, 0xA5, sizeof r.buffer);
-    return r;
+    return kind == 0 ? write_shape(record, buffer, room, length) : write_velocity(record, buffer, room, length);
 }
 
-static void expect_short(const struct rewriting *r, enum answer answer)
+// Writes the record of a message again, with too little room and with enough: the message with its spare bits zero comes out.
+static void check_rewriting(const uint8_t *octets, size_t length, uint32_t kind, const void *record)
 {
-    expect(answer == SHORT_BUFFER && r->count == 0 && written(r->buffer, r->message, 0), "a short buffer is 10");
-}
-
-static void expect_written(const struct rewriting *r, enum answer answer)
-{
-    expect(answer == DONE && r->count == r->length && written(r->buffer, r->message, r->length), "written again");
+    uint8_t message[100] = {0}, buffer[100];
+    size_t count = 99;
+    memcpy(message, octets, length);
+    clear_spare(message, kind);
+    memset(buffer, 0xA5, sizeof buffer);
+    enum answer answer = write_record(kind, record, buffer, length - 1, &count);
+    expect(answer == SHORT_BUFFER && count == 0 && written(buffer, message, 0), "a short buffer is 10");
+    answer = write_record(kind, record, buffer, sizeof buffer, &count);
+    expect(answer == DONE && count == length && written(buffer, message, length), "written again");
 }
 
 static void check_shape_trip(const uint8_t *octets, size_t length)
 {
     struct shape shape, again;
-    enum answer answer = read_shape(octets, length, &shape);
-    if (answer != DONE) {
+    if (read_shape(octets, length, &shape) != DONE) {
         struct shape nothing;
         memset(&nothing, 0, sizeof nothing);
         nothing.type = NOTHING;
         expect(memcmp(&shape, &nothing, sizeof shape) == 0, "a refused record is nothing");
         return;
     }
-    struct rewriting r = rewriting_of(octets, length, 0);
-    enum answer refused = write_shape(&shape, r.buffer, length - 1, &r.count);
-    expect_short(&r, refused);
-    enum answer done = write_shape(&shape, r.buffer, sizeof r.buffer, &r.count);
-    expect_written(&r, done);
+    check_rewriting(octets, length, 0, &shape);
     struct shape_quantities quantities;
     expect(report_shape(&shape, &quantities) == DONE, "reported");
     if (shape.semi_minor > shape.semi_major) {
@@ -141,11 +123,7 @@ static void check_velocity_trip(const uint8_t *octets, size_t length)
         expect(velocity.type == NOTHING && velocity.bearing == 0 && velocity.horizontal_speed == 0, "a refused record is nothing");
         return;
     }
-    struct rewriting r = rewriting_of(octets, length, 1);
-    enum answer refused = write_velocity(&velocity, r.buffer, length - 1, &r.count);
-    expect_short(&r, refused);
-    enum answer done = write_velocity(&velocity, r.buffer, sizeof r.buffer, &r.count);
-    expect_written(&r, done);
+    check_rewriting(octets, length, 1, &velocity);
     struct velocity_quantities quantities;
     expect(report_velocity(&velocity, &quantities) == DONE, "reported");
     expect(code_velocity(&quantities, &again) == DONE && memcmp(&velocity, &again, sizeof velocity) == 0, "reported and coded again");
@@ -177,7 +155,7 @@ static enum answer written_as(struct shape shape)
     return answer;
 }
 
-static void check_records(void)
+static void check_shape_records(void)
 {
     expect(written_as((struct shape){.type = NOTHING}) == 2, "nothing is 2");
     expect(written_as((struct shape){.type = 2}) == 2, "type 2");
@@ -207,6 +185,10 @@ static void check_records(void)
     expect(written_as((struct shape){.type = 5, .count = 3, .points[2].longitude = -8388609}) == 7, "a longitude too low");
     expect(written_as((struct shape){.type = 5, .count = 3, .points[2].latitude = 8388608}) == 7, "a latitude too high");
     expect(written_as((struct shape){.type = 5, .count = 15, .points[14].longitude = -8388608}) == 10, "a good polygon");
+}
+
+static void check_velocity_records(void)
+{
     uint8_t buffer[8];
     size_t length;
     expect(write_velocity(&(struct velocity){.type = 4, .bearing = 360}, buffer, 8, &length) == 2, "velocity 4");
@@ -279,7 +261,8 @@ int main(void)
     check_table(radius_table, 10000, 11, 10, code_uncertainty);
     check_table(height_table, 45000, 41, 40, code_altitude_uncertainty);
     check_printed();
-    check_records();
+    check_shape_records();
+    check_velocity_records();
     check_quantities();
     check_choice();
     check_frames();

@@ -42,17 +42,17 @@ static int longitude_holds(const struct message *m, int64_t x)
 
 static int has_altitude(uint32_t type)
 {
-    return type == 8 || type == 9;
+    return type == ALTITUDE || type == ELLIPSOID;
 }
 
 static int has_horizontal(uint32_t type)
 {
-    return type == 1 || type == 3 || type == 9;
+    return type == CIRCLE || type == ELLIPSE || type == ELLIPSOID;
 }
 
 static int has_axes(uint32_t type)
 {
-    return type == 3 || type == 9;
+    return type == ELLIPSE || type == ELLIPSOID;
 }
 
 static int altitude_holds(const struct message *m, const struct request *q)
@@ -91,7 +91,7 @@ static int orientation_holds(const struct message *m, const struct request *q)
 
 static int vertical_holds(const struct message *m, const struct request *q)
 {
-    if ((m->type == 9) != (q->altitude_uncertainty.given != 0))
+    if ((m->type == ELLIPSOID) != (q->altitude_uncertainty.given != 0))
         return 0;
     return !q->altitude_uncertainty.given || covers_vertical[m->vertical];
 }
@@ -113,7 +113,7 @@ static int holds(const struct message *m, const struct request *q)
 
 static size_t octets_of(uint32_t type)
 {
-    return type == 0 ? 7 : type == 1 ? 8 : type == 3 ? 11 : type == 8 ? 9 : 14;
+    return type == POINT ? 7 : type == CIRCLE ? 8 : type == ELLIPSE ? 11 : type == ALTITUDE ? 9 : 14;
 }
 
 static int compare(uint64_t left, uint64_t right)
@@ -176,12 +176,12 @@ static void try_uncertainties(struct message *m, const struct request *q)
     for (m->major = 0; m->major < (has_horizontal(type) ? 128u : 1u); m->major++) {
         if (!major_holds(m, q))
             continue;
-        uint32_t first = type == 1 ? m->major : 0;
-        uint32_t last = type == 1 ? m->major : has_axes(type) ? 127 : 0;
+        uint32_t first = type == CIRCLE ? m->major : 0;
+        uint32_t last = type == CIRCLE ? m->major : has_axes(type) ? 127 : 0;
         for (m->minor = first; m->minor <= last; m->minor++) {
             if (!minor_holds(m, q))
                 continue;
-            for (m->vertical = 0; m->vertical < (type == 9 ? 128u : 1u); m->vertical++)
+            for (m->vertical = 0; m->vertical < (type == ELLIPSOID ? 128u : 1u); m->vertical++)
                 if (vertical_holds(m, q))
                     offer(m, q);
         }
@@ -254,7 +254,7 @@ static size_t octets_from(const struct message *m, uint8_t *message)
         message[n++] = (uint8_t)m->minor;
         message[n++] = (uint8_t)m->orientation;
     }
-    if (m->type == 9)
+    if (m->type == ELLIPSOID)
         message[n++] = (uint8_t)m->vertical;
     if (has_axes(m->type))
         message[n++] = (uint8_t)m->confidence;
@@ -283,7 +283,7 @@ static enum answer search(const struct request *q, uint32_t list, uint8_t *messa
     if ((q->horizontal != NOT_ASKED && !covers_major[127]) || (q->altitude_uncertainty.given && !covers_vertical[127]))
         return TOO_UNCERTAIN;
     found = 0;
-    static const uint32_t types[] = {9, 8, 3, 1, 0};
+    static const uint32_t types[] = {ELLIPSOID, ALTITUDE, ELLIPSE, CIRCLE, POINT};
     for (size_t i = 0; i < sizeof types / sizeof types[0]; i++)
         if (list >> types[i] & 1)
             try_type(types[i], q);

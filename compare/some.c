@@ -3,8 +3,6 @@
 #include "../include/gad.h"
 #include "coder.h"
 
-#include <string.h>
-
 // ---- Messages ----
 
 #define START {4, 4, SPARE}, {8, 1, SIGN}, {9, 23, LATITUDE_BITS}, {32, 24, LONGITUDE_BITS}
