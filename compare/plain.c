@@ -45,7 +45,7 @@ int64_t plain_read_velocity(uint32_t *codes, size_t code_cells, const uint8_t *m
     return hand_back(answer, codes, code_cells, &velocity, GAD_VELOCITY_CODES, sizeof velocity);
 }
 
-// A macro: gcc makes slower code of a function at the end of both.
+// One text for both records.
 #define PLAIN_WRITE(record, cells)                                                                    \
     int64_t plain_write_##record(uint8_t *out, size_t room, const uint32_t *codes, size_t code_cells) \
     {                                                                                                 \
