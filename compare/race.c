@@ -14,7 +14,9 @@
 
 // ---- Inputs, all made before anything is timed ----
 
-enum { ITEMS = 2048, EVERY_TYPE = 1 << POINT | 1 << CIRCLE | 1 << ELLIPSE | 1 << ALTITUDE | 1 << ELLIPSOID };
+// So many that a processor can't learn by heart which way each branch goes for which item: a network's messages don't come again in the
+// same order.
+enum { ITEMS = 16384, EVERY_TYPE = 1 << POINT | 1 << CIRCLE | 1 << ELLIPSE | 1 << ALTITUDE | 1 << ELLIPSOID };
 
 struct message {
     size_t length;

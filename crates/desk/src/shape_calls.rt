@@ -90,14 +90,15 @@ fn coded_in(given: &[i64]) -> ShapeCoded
     requires { ⌜ 44 ≤ length (now given) ⌝ }
     ensures { λ r. ⌜ CodesShapeIn (now (given .entry)) r ⌝ }
 {
-    let quantities = quantity_cells::shape_quantities_in(given);
     if !quantity_cells::shape_arrives(given) {
+        let quantities = quantity_cells::shape_quantities_in(given);
         let kind = quantities.kind;
         return ShapeCoded {
             outcome: cells::else_out_of_range(records::form(kind, quantities.count)),
             shape: layout::blank_shape(Kind::Nothing),
         };
     }
+    let quantities = quantity_cells::shape_quantities_in(given);
     records::code_shape(quantities)
 }
 

@@ -37,11 +37,12 @@ pub extern "C" fn gad_write_velocity(out: &mut [u8], codes: &[u32]) -> i64
     if codes.len() < CODES {
         return cells::answer(Outcome::Refused(Refusal::WrongLength), 0).0;
     }
-    let velocity = code_cells::velocity_in(codes);
     if !code_cells::velocity_is_whole(codes) {
+        let velocity = code_cells::velocity_in(codes);
         let outcome = cells::else_out_of_range(velocities::velocity_outcome(velocity));
         return cells::answer(outcome, 0).0;
     }
+    let velocity = code_cells::velocity_in(codes);
     let written = velocities::write_velocity(out, velocity);
     let outcome = written.outcome;
     cells::answer(outcome, written.length).0
@@ -77,13 +78,14 @@ fn reported_in(codes: &[u32]) -> VelocityReported
     requires { ⌜ 7 ≤ length (now codes) ⌝ }
     ensures { λ r. ⌜ ReportsVelocityIn (now (codes .entry)) r ⌝ }
 {
-    let velocity = code_cells::velocity_in(codes);
     if !code_cells::velocity_is_whole(codes) {
+        let velocity = code_cells::velocity_in(codes);
         return VelocityReported {
             outcome: cells::else_out_of_range(velocities::velocity_outcome(velocity)),
             quantities: quantities::no_velocity(),
         };
     }
+    let velocity = code_cells::velocity_in(codes);
     reports::report_velocity(velocity)
 }
 
@@ -91,14 +93,15 @@ fn coded_in(given: &[i64]) -> VelocityCoded
     requires { ⌜ 6 ≤ length (now given) ⌝ }
     ensures { λ r. ⌜ CodesVelocityIn (now (given .entry)) r ⌝ }
 {
-    let quantities = quantity_cells::velocity_quantities_in(given);
     if !quantity_cells::velocity_arrives(given) {
+        let quantities = quantity_cells::velocity_quantities_in(given);
         let kind = quantities.kind;
         return VelocityCoded {
             outcome: cells::else_out_of_range(kind_outcome(kind)),
             velocity: layout::blank_velocity(VelocityKind::Nothing),
         };
     }
+    let quantities = quantity_cells::velocity_quantities_in(given);
     motions::code_velocity(quantities)
 }
 

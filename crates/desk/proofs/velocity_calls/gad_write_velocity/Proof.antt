@@ -19,11 +19,11 @@ answer-requires c κs = search needs
 returns : tie.Need-returns
 returns c = rw (toZ-ofZ {w = w64} {z = c .before .answer .result .0} (search needs)) (too-short (omega arith) (c .before .answer .ensures) refl)
 
-velocity-in-requires : tie.Need-velocity-in-requires
-velocity-in-requires c κs = search needs
-
 velocity-is-whole-requires : tie.Need-velocity-is-whole-requires
 velocity-is-whole-requires c κs = search needs
+
+velocity-in-requires : tie.Need-velocity-in-requires
+velocity-in-requires c κs = search needs
 
 velocity-outcome-requires : tie.Need-velocity-outcome-requires
 velocity-outcome-requires c κs = search needs
@@ -37,13 +37,16 @@ answer-requires-2 c κs = search needs
 returns-2 : tie.Need-returns-2
 returns-2 c =
     let given = c .before .before .before .before .before .before .before .before .before .before .args in
-    let velocity-in = c .before .before .before .before .before .before .velocity-in in
-    let velocity-is-whole = c .before .before .before .before .before .velocity-is-whole in
+    let velocity-in = c .before .before .before .before .velocity-in in
+    let velocity-is-whole = c .before .before .before .before .before .before .velocity-is-whole in
     let velocity-outcome = c .before .before .before .velocity-outcome in
-    let if2 = c .before .before .before .before .if2 in
+    let if2 = c .before .before .before .before .before .if2 in
     let else-out-of-range = c .before .before .else-out-of-range in
     let answer2 = c .before .answer2 in
     rw (toZ-ofZ {w = w64} {z = answer2 .result .0} (search needs)) (long-enough (omega arith) (misfit-told (velocity-outcome .result) (held-velocity-misfit (given .codes .now) (refuted (velocity-is-whole .result) (if2 .taken) (velocity-is-whole .ensures)) (velocity-outcome .result) _ (rw (velocity-in .ensures) at (velocity-outcome .ensures))) (rw (else-out-of-range .ensures) at (answer2 .ensures))))
+
+velocity-in-requires-2 : tie.Need-velocity-in-requires-2
+velocity-in-requires-2 c κs = search needs
 
 write-velocity-requires : tie.Need-write-velocity-requires
 write-velocity-requires c κs = search needs
@@ -58,9 +61,9 @@ returns-3 : tie.Need-returns-3
 returns-3 c =
     let long : 7 ≤ length (c .before .before .before .before .before .before .before .before .before .before .before .before .args .codes .now) = omega arith in
     let given = c .before .before .before .before .before .before .before .before .before .before .before .before .args in
-    let velocity-in = c .before .before .before .before .before .before .before .before .velocity-in in
-    let velocity-is-whole = c .before .before .before .before .before .before .before .velocity-is-whole in
-    let if2 = c .before .before .before .before .before .before .if2 in
+    let velocity-in = c .before .before .before .before .before .before .velocity-in2 in
+    let velocity-is-whole = c .before .before .before .before .before .before .before .before .velocity-is-whole in
+    let if2 = c .before .before .before .before .before .before .before .if2 in
     let write-velocity = c .before .before .before .before .write-velocity in
     let answer3 = c .before .answer3 in
     rw (toZ-ofZ {w = w64} {z = answer3 .result .0} (search needs)) (long-enough long (record { written = write-velocity .result; promise = held-velocity-writes (given .codes .now) (shown (velocity-is-whole .result) (if2 .left) (velocity-is-whole .ensures)) _ _ (write-velocity .result) (rw (velocity-in .ensures) at (write-velocity .ensures)); told = answer3 .ensures }))
@@ -71,12 +74,13 @@ gad-write-velocity-spec =
     (tie.spec
     answer-requires
     returns
-    velocity-in-requires
     velocity-is-whole-requires
+    velocity-in-requires
     velocity-outcome-requires
     else-out-of-range-requires
     answer-requires-2
     returns-2
+    velocity-in-requires-2
     write-velocity-requires
     answer-requires-3
     same-length
