@@ -43,11 +43,6 @@ two-stored (x ∷ []) a b h = absurd (omega arith)
 two-stored (x ∷ y ∷ s) a b h = refl
 
 module _ {A : Type 0} where
-  -- cells put after cells are the two in a row
-  pub sets-append : (l : List A) (i : ℕ) (a b : List A) → sets (sets l i a) (i + length a) b ≡ sets l i (a ++ b)
-  sets-append l i [] b = rw add-zero
-  sets-append l i (x ∷ a) b = rw (add-suc, ← suc-add) (sets-append _ (suc i) a b)
-
   -- cells put after the n first
   pub sets-after : (a b l : List A) {n m : ℕ} → length a ≡ n → n + length b ≡ m → m ≤ length l → sets (a ++ drop n l) n b ≡ (a ++ b) ++ drop m l
   sets-after a b l {n} {m} e f h =

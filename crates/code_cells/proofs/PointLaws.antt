@@ -12,7 +12,7 @@ use Rattle.octets.specs.Codes.{bitOf}
 use Rattle.layout.specs.Shapes.{upto, zeroLatitude, zeroLongitude}
 use Rattle.fetching.proofs.Filling.{fill}
 use Rattle.cells.specs.Codes.{bitsOf}
-use Rattle.cells.proofs.CopyLaws.{sets-append}
+use Rattle.ground.proofs.ListLaws.{sets-append}
 use Rattle.code_cells.specs.Shapes.{pointCells}
 
 module _ (latitudes : List LatitudeCode) (longitudes : List LongitudeCode) where

@@ -1,3 +1,4 @@
 pub mod SignLaws
 pub mod SetLaws
 pub mod AnswerLaws
+pub mod ListLaws

@@ -9,7 +9,7 @@ use lib.ListN.{length, length-append, set, getD}
 use lib.Seq.{sets}
 use Rattle.ground.specs.declared.quantities.Nanodegrees.{Nanodegrees}
 use Rattle.quantities.specs.Shapes.{zeroDegrees}
-use Rattle.cells.proofs.CopyLaws.{sets-append}
+use Rattle.ground.proofs.ListLaws.{sets-append}
 use Rattle.quantity_cells.specs.Shapes.{pointCells}
 
 module _ (latitudes longitudes : List Nanodegrees) where

@@ -82,35 +82,23 @@ fn joined(
 ) -> Shape
     ensures { λ r. ⌜ r ≡ shapeJoined kind count altitude «inner_radius» ranged sizes points ⌝ }
 {
-    let latitude = ranged.latitude;
-    let longitude = ranged.longitude;
-    let uncertainty = sizes.uncertainty;
-    let semi_major = sizes.semi_major;
-    let semi_minor = sizes.semi_minor;
-    let orientation = ranged.orientation;
-    let altitude_uncertainty = sizes.altitude_uncertainty;
-    let confidence = ranged.confidence;
-    let offset = ranged.offset;
-    let included = ranged.included;
-    let latitudes = points.latitudes;
-    let longitudes = points.longitudes;
     Shape {
         kind,
-        latitude,
-        longitude,
+        latitude: ranged.latitude,
+        longitude: ranged.longitude,
         altitude,
-        uncertainty,
-        semi_major,
-        semi_minor,
-        orientation,
-        altitude_uncertainty,
-        confidence,
+        uncertainty: sizes.uncertainty,
+        semi_major: sizes.semi_major,
+        semi_minor: sizes.semi_minor,
+        orientation: ranged.orientation,
+        altitude_uncertainty: sizes.altitude_uncertainty,
+        confidence: ranged.confidence,
         inner_radius,
-        offset,
-        included,
+        offset: ranged.offset,
+        included: ranged.included,
         count,
-        latitudes,
-        longitudes,
+        latitudes: points.latitudes,
+        longitudes: points.longitudes,
     }
 }
 

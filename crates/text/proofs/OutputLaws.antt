@@ -15,12 +15,8 @@ use mir.Val.{SFits}
 use borrow.Author.Tests.{lt-ltb, le-ltb, ltb-true, ltb-false}
 use Rattle.ground.specs.Signs.{partsOf}
 use Rattle.ground.specs.declared.signs.Parts.{Parts}
+use Rattle.ground.proofs.ListLaws.{sets-append}
 use Rattle.text.specs.Text.{decimalIn, decimal, pair, four, eight, signedDecimal, Puts}
-
--- text put after text is the two in a row
-pub sets-append : (l : List ℕ) (i : ℕ) (a b : List ℕ) → sets (sets l i a) (i + length a) b ≡ sets l i (a ++ b)
-sets-append l i [] b = rw add-zero
-sets-append l i (x ∷ a) b = rw (add-suc, ← suc-add) (sets-append _ (suc i) a b)
 
 -- put, and then put after it
 pub then : {x y z t u : List ℕ} {i j k : ℕ} → Puts x i t y j → Puts y j u z k → Puts x i (t ++ u) z k

@@ -10,6 +10,7 @@ use lib.Seq.{sets, sets-eq}
 use borrow.Author.Tests.{lt-ltb}
 use Rattle.ground.specs.declared.codes.LatitudeCode.{LatitudeCode}
 use Rattle.ground.specs.declared.codes.LongitudeCode.{LongitudeCode}
+use Rattle.ground.proofs.ListLaws.{sets-append}
 use Rattle.layout.specs.declared.shapes.Kind.{Kind}
 use Rattle.layout.specs.declared.shapes.Kind.the-variants.{Nothing, Point, Circle, Ellipse, Polygon, AltitudePoint, AltitudeEllipsoid, Arc}
 use Rattle.layout.specs.declared.shapes.Shape.{Shape}
@@ -46,12 +47,6 @@ use Rattle.writing.specs.Storing.{positions, rest, Storable}
 use Rattle.limits.proofs.LimitLaws.{points-within}
 
 -- ---- runs of stores
-
-sets-append : (o : List ℕ) (at : ℕ) (a b : List ℕ) → sets (sets o at a) (at + length a) b ≡ sets o at (a ++ b)
-sets-append o at [] b = ap (λ (n : ℕ). sets o n b) (add-zero at)
-sets-append o at (v ∷ a) b =
-    let e : at + suc (length a) ≡ suc at + length a = omega arith in
-    ap (λ (n : ℕ). sets (sets (set o at v) (suc at) a) n b) e ∙ sets-append (set o at v) (suc at) a b
 
 -- a run from the first octet on is a message before the other octets
 pub run-stored : (rows : List Row) (value : Field → ℕ) (o m : List ℕ) → message rows value ≡ m → lengthOf rows ≤ length o → sets o 0 m ≡ message rows value ++ drop (lengthOf rows) o
