@@ -1,8 +1,8 @@
-// What the test programs share: octets as hexadecimal digits, the numbers of a line, and the parts of an answer. Nothing of the
+// What the test programs share: octets as hexadecimal digits, the numbers of a line, and the text of an answer. Nothing of the
 // product stands on it.
 mod hex;
 mod numbers;
-mod output;
+mod texts;
 
 pub use hex::octets_in;
 pub use numbers::natural;
@@ -11,8 +11,11 @@ pub use numbers::octet;
 pub use numbers::room;
 pub use numbers::whole;
 pub use numbers::word;
-pub use output::print_natural;
-pub use output::print_number;
-pub use output::print_octets;
-pub use output::print_outcome;
-pub use output::print_signed;
+pub use texts::Text;
+pub use texts::numbered;
+pub use texts::with_natural;
+pub use texts::with_number;
+pub use texts::with_octets;
+pub use texts::with_outcome;
+pub use texts::with_part;
+pub use texts::with_signed;

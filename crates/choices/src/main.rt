@@ -2,6 +2,7 @@
 // line's number, the answer, the length and a buffer of so many octets, all aa before; `-` for what can't be read.
 // tests/choosing.py works out what must be printed.
 use asking::Asked;
+use cases::Text;
 use requests::Request;
 
 // Prints an answer for each line, and answers how many there were.
@@ -20,46 +21,61 @@ fn take_lines(line: &mut [u8; 4096], block: &mut [u8; 65536]) -> u64 {
 }
 
 fn print_line(number: u64, line: &[u8], used: usize) {
-    io::print_decimal(1, number);
-    if used <= line.len() {
-        print_case(&line[0..used]);
-    }
-    io::write_all(1, b"\n");
+    let answered = with_line(cases::numbered(number), line, used);
+    print(cases::with_part(answered, b"\n"));
 }
 
-// Prints the answer to a case. A line without two spaces has no request.
-fn print_case(line: &[u8]) {
+fn print(text: Text) {
+    let octets = text.octets;
+    print_first(&octets, text.length);
+}
+
+fn print_first(octets: &[u8], n: usize) {
+    if n <= octets.len() {
+        io::write_all(1, &octets[0..n]);
+    }
+}
+
+fn with_line(text: Text, line: &[u8], used: usize) -> Text {
+    if used <= line.len() {
+        return with_case(text, &line[0..used]);
+    }
+    text
+}
+
+// The text with the answer to a case. A line without two spaces has no request.
+fn with_case(text: Text, line: &[u8]) -> Text {
     let list_end = numerals::field_end(line, 0);
     if list_end == line.len() {
-        return;
+        return text;
     }
     let room_end = numerals::field_end(line, list_end + 1);
     if room_end == line.len() {
-        return;
+        return text;
     }
     let from = room_end + 1;
     let list = asking::list_in(&line[0..list_end]);
     let room = cases::room(cases::numbers_in(line)[1]);
-    print_asked(asking::request_in(&line[from..]), list, room);
+    with_asked(text, asking::request_in(&line[from..]), list, room)
 }
 
-fn print_asked(asked: Asked, list: u16, room: usize) {
+fn with_asked(text: Text, asked: Asked, list: u16, room: usize) -> Text {
     let Asked::Request(request) = asked else {
-        io::write_all(1, b" -");
-        return;
+        return cases::with_part(text, b" -");
     };
     let mut buffer = [170; 128];
-    if room <= 128 {
-        print_chosen(&mut buffer[0..room], request, list);
+    if 128 < room {
+        return text;
     }
+    with_chosen(&mut buffer[0..room], text, request, list)
 }
 
-fn print_chosen(buffer: &mut [u8], request: Request, list: u16) {
+fn with_chosen(buffer: &mut [u8], text: Text, request: Request, list: u16) -> Text {
     let written = choice::choose(buffer, request, list);
     let outcome = written.outcome;
-    cases::print_outcome(outcome);
-    cases::print_number(written.length as u64);
-    cases::print_octets(buffer);
+    let answered = cases::with_outcome(text, outcome);
+    let measured = cases::with_number(answered, written.length as u64);
+    cases::with_octets(measured, buffer)
 }
 
 fn main() {

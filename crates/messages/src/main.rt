@@ -5,6 +5,7 @@
 mod shape_cases;
 mod velocity_cases;
 
+use cases::Text;
 ghost use Prim.Native.Nat.{_≤_};
 ghost use lib.ListN.{length};
 
@@ -27,32 +28,39 @@ fn take_lines(s: &[u8]) -> usize
 }
 
 fn print_line(number: usize, line: &[u8]) {
-    io::print_decimal(1, number as u64);
-    print_answer(line);
-    io::write_all(1, b"\n");
+    let answered = with_answer(cases::numbered(number as u64), line);
+    print(cases::with_part(answered, b"\n"));
 }
 
-// Prints what a line asks for.
-fn print_answer(line: &[u8]) {
+fn print(text: Text) {
+    let octets = text.octets;
+    print_first(&octets, text.length);
+}
+
+fn print_first(octets: &[u8], n: usize) {
+    if n <= octets.len() {
+        io::write_all(1, &octets[0..n]);
+    }
+}
+
+// The text with what a line asks for.
+fn with_answer(text: Text, line: &[u8]) -> Text {
     let end = numerals::field_end(line, 0);
     if end == line.len() {
-        return;
+        return text;
     }
     let from = end + 1;
     let case = &line[from..];
     if check::same(&line[0..end], b"shape") {
-        shape_cases::print_read(case);
-        return;
+        return shape_cases::with_read(text, case);
     }
     if check::same(&line[0..end], b"velocity") {
-        velocity_cases::print_read(case);
-        return;
+        return velocity_cases::with_read(text, case);
     }
     if check::same(&line[0..end], b"put-shape") {
-        shape_cases::print_written(case);
-        return;
+        return shape_cases::with_written(text, case);
     }
-    velocity_cases::print_written(case);
+    velocity_cases::with_written(text, case)
 }
 
 fn main() {

@@ -1,4 +1,5 @@
 // Cases of shapes.
+use cases::Text;
 use ground::AltitudeCode;
 use ground::AltitudeUncertaintyCode;
 use ground::ConfidenceCode;
@@ -12,32 +13,33 @@ use ground::UncertaintyCode;
 use layout::Shape;
 
 // The answer to octets, and the message of the record that was read.
-pub fn print_read(digits: &[u8]) {
+pub fn with_read(text: Text, digits: &[u8]) -> Text {
     let mut octets = [0; 128];
     let n = cases::octets_in(&mut octets, digits);
     let read = reading::read_shape(&octets[0..n]);
     let outcome = read.outcome;
-    cases::print_outcome(outcome);
+    let answered = cases::with_outcome(text, outcome);
     let again = writing::write_shape(&mut octets, read.shape).length;
-    if again <= 128 {
-        cases::print_octets(&octets[0..again]);
+    if 128 < again {
+        return answered;
     }
+    cases::with_octets(answered, &octets[0..again])
 }
 
 // The answer to a record, the length of its message, and the buffer.
-pub fn print_written(codes: &[u8]) {
+pub fn with_written(text: Text, codes: &[u8]) -> Text {
     let values = cases::numbers_in(codes);
     let room = cases::room(values[0]);
     let mut buffer = [170; 128];
-    print_into(&mut buffer[0..room], shape_of(values));
+    with_buffer(&mut buffer[0..room], text, shape_of(values))
 }
 
-fn print_into(buffer: &mut [u8], shape: Shape) {
+fn with_buffer(buffer: &mut [u8], text: Text, shape: Shape) -> Text {
     let written = writing::write_shape(buffer, shape);
     let outcome = written.outcome;
-    cases::print_outcome(outcome);
-    cases::print_number(written.length as u64);
-    cases::print_octets(buffer);
+    let answered = cases::with_outcome(text, outcome);
+    let measured = cases::with_number(answered, written.length as u64);
+    cases::with_octets(measured, buffer)
 }
 
 // The record of the numbers after the room: its type, its codes in the record's order, its count. Every point is zero.

@@ -1,4 +1,5 @@
 // Cases of velocities.
+use cases::Text;
 use ground::BearingCode;
 use ground::HorizontalSpeedCode;
 use ground::UncertaintySpeedCode;
@@ -6,32 +7,33 @@ use ground::VerticalSpeedCode;
 use layout::Velocity;
 
 // The answer to octets, and the message of the record that was read.
-pub fn print_read(digits: &[u8]) {
+pub fn with_read(text: Text, digits: &[u8]) -> Text {
     let mut octets = [0; 128];
     let n = cases::octets_in(&mut octets, digits);
     let read = velocities::read_velocity(&octets[0..n]);
     let outcome = read.outcome;
-    cases::print_outcome(outcome);
+    let answered = cases::with_outcome(text, outcome);
     let again = velocities::write_velocity(&mut octets, read.velocity).length;
-    if again <= 128 {
-        cases::print_octets(&octets[0..again]);
+    if 128 < again {
+        return answered;
     }
+    cases::with_octets(answered, &octets[0..again])
 }
 
 // The answer to a record, the length of its message, and the buffer.
-pub fn print_written(codes: &[u8]) {
+pub fn with_written(text: Text, codes: &[u8]) -> Text {
     let values = cases::numbers_in(codes);
     let room = cases::room(values[0]);
     let mut buffer = [170; 128];
-    print_into(&mut buffer[0..room], velocity_of(values));
+    with_buffer(&mut buffer[0..room], text, velocity_of(values))
 }
 
-fn print_into(buffer: &mut [u8], velocity: Velocity) {
+fn with_buffer(buffer: &mut [u8], text: Text, velocity: Velocity) -> Text {
     let written = velocities::write_velocity(buffer, velocity);
     let outcome = written.outcome;
-    cases::print_outcome(outcome);
-    cases::print_number(written.length as u64);
-    cases::print_octets(buffer);
+    let answered = cases::with_outcome(text, outcome);
+    let measured = cases::with_number(answered, written.length as u64);
+    cases::with_octets(measured, buffer)
 }
 
 // The record of the numbers after the room.

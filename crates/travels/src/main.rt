@@ -6,6 +6,7 @@ mod forms;
 mod shape_cases;
 mod velocity_cases;
 
+use cases::Text;
 use forms::Form;
 
 // Prints an answer for each line, and answers how many there were.
@@ -23,42 +24,52 @@ fn take_lines(line: &mut [u8; 4096], block: &mut [u8; 65536]) -> u64 {
     lines
 }
 
-// A line of more octets than are held can't be read.
 fn print_line(number: u64, line: &[u8], used: usize) {
-    io::print_decimal(1, number);
-    if used <= line.len() {
-        print_answer(&line[0..used]);
-    } else {
-        io::write_all(1, b" -");
-    }
-    io::write_all(1, b"\n");
+    let answered = with_line(cases::numbered(number), line, used);
+    print(cases::with_part(answered, b"\n"));
 }
 
-fn print_answer(line: &[u8]) {
+fn print(text: Text) {
+    let octets = text.octets;
+    print_first(&octets, text.length);
+}
+
+fn print_first(octets: &[u8], n: usize) {
+    if n <= octets.len() {
+        io::write_all(1, &octets[0..n]);
+    }
+}
+
+// A line of more octets than are held can't be read.
+fn with_line(text: Text, line: &[u8], used: usize) -> Text {
+    if used <= line.len() {
+        return with_answer(text, &line[0..used]);
+    }
+    cases::with_part(text, b" -")
+}
+
+fn with_answer(text: Text, line: &[u8]) -> Text {
     let end = numerals::field_end(line, 0);
     if end < line.len() {
         let from = end + 1;
-        print_case(&line[0..end], &line[from..]);
-    } else {
-        io::write_all(1, b" -");
+        return with_case(text, &line[0..end], &line[from..]);
     }
+    cases::with_part(text, b" -")
 }
 
-// Prints what a case's quantities give.
-fn print_case(name: &[u8], case: &[u8]) {
+// The text with what a case's quantities give.
+fn with_case(text: Text, name: &[u8], case: &[u8]) -> Text {
     if check::same(name, b"shape") {
         if forms::is_readable(Form::Shape, case) {
-            shape_cases::print_coded(shape_cases::shape_in(case));
-            return;
+            return shape_cases::with_coded(text, shape_cases::shape_in(case));
         }
     }
     if check::same(name, b"velocity") {
         if forms::is_readable(Form::Velocity, case) {
-            velocity_cases::print_coded(velocity_cases::velocity_in(case));
-            return;
+            return velocity_cases::with_coded(text, velocity_cases::velocity_in(case));
         }
     }
-    io::write_all(1, b" -");
+    cases::with_part(text, b" -")
 }
 
 fn main() {

@@ -1,5 +1,6 @@
 // Cases of shapes.
 use crate::fields;
+use cases::Text;
 use ground::Confidence;
 use ground::Millidegrees;
 use ground::Millimetres;
@@ -37,72 +38,85 @@ pub fn shape_in(case: &[u8]) -> ShapeQuantities {
 }
 
 // The answer to quantities, and what is made of the record.
-pub fn print_coded(quantities: ShapeQuantities) {
+pub fn with_coded(text: Text, quantities: ShapeQuantities) -> Text {
     let coded = records::code_shape(quantities);
     let outcome = coded.outcome;
-    cases::print_outcome(outcome);
+    let answered = cases::with_outcome(text, outcome);
     if let Outcome::Done = outcome {
-        print_record(coded.shape);
+        return with_record(answered, coded.shape);
     }
+    answered
 }
 
 // The record's message, and the quantities that it reports.
-fn print_record(shape: Shape) {
-    let mut octets = [0; 128];
-    let length = writing::write_shape(&mut octets, shape).length;
-    if length <= 128 {
-        cases::print_octets(&octets[0..length]);
-    }
+fn with_record(text: Text, shape: Shape) -> Text {
+    let written = with_message(text, shape);
     let reported = reports::report_shape(shape);
     let outcome = reported.outcome;
     if let Outcome::Done = outcome {
-        print_quantities(reported.quantities);
+        return with_quantities(written, reported.quantities);
     }
+    written
 }
 
-fn print_quantities(quantities: ShapeQuantities) {
+fn with_message(text: Text, shape: Shape) -> Text {
+    let mut octets = [0; 128];
+    let length = writing::write_shape(&mut octets, shape).length;
+    if 128 < length {
+        return text;
+    }
+    cases::with_octets(text, &octets[0..length])
+}
+
+fn with_quantities(text: Text, quantities: ShapeQuantities) -> Text {
     let kind = quantities.kind;
     let confidence = quantities.confidence;
     let latitudes = quantities.latitudes;
     let longitudes = quantities.longitudes;
-    cases::print_number(layout::type_number(kind) as u64);
-    cases::print_number(quantities.count as u64);
-    cases::print_signed(Whole(quantities.latitude.0));
-    cases::print_signed(Whole(quantities.longitude.0));
-    cases::print_signed(cases::whole(quantities.altitude.0));
-    cases::print_natural(quantities.uncertainty.0);
-    cases::print_natural(quantities.semi_major.0);
-    cases::print_natural(quantities.semi_minor.0);
-    cases::print_natural(quantities.orientation.0);
-    cases::print_natural(quantities.altitude_uncertainty.0);
-    print_confidence(confidence);
-    cases::print_natural(quantities.inner_radius.0);
-    cases::print_natural(quantities.offset.0);
-    cases::print_natural(quantities.included.0);
-    print_points(latitudes, longitudes, quantities.count);
+    let count = quantities.count as u64;
+    let mut said = cases::with_number(text, layout::type_number(kind) as u64);
+    said = cases::with_number(said, count);
+    said = cases::with_signed(said, Whole(quantities.latitude.0));
+    said = cases::with_signed(said, Whole(quantities.longitude.0));
+    said = cases::with_signed(said, cases::whole(quantities.altitude.0));
+    said = cases::with_natural(said, quantities.uncertainty.0);
+    said = cases::with_natural(said, quantities.semi_major.0);
+    said = cases::with_natural(said, quantities.semi_minor.0);
+    said = cases::with_natural(said, quantities.orientation.0);
+    said = cases::with_natural(said, quantities.altitude_uncertainty.0);
+    said = with_confidence(said, confidence);
+    said = cases::with_natural(said, quantities.inner_radius.0);
+    said = cases::with_natural(said, quantities.offset.0);
+    said = cases::with_natural(said, quantities.included.0);
+    with_points(said, latitudes, longitudes, quantities.count)
 }
 
-fn print_confidence(confidence: Confidence) {
+fn with_confidence(text: Text, confidence: Confidence) -> Text {
     match confidence {
-        Confidence::PerCent(n) => cases::print_natural(n),
-        Confidence::Missing => {
-            io::write_all(1, b" -");
-        }
+        Confidence::PerCent(n) => cases::with_natural(text, n),
+        Confidence::Missing => cases::with_part(text, b" -"),
     }
 }
 
 // The first n points.
-fn print_points(latitudes: [Nanodegrees; 15], longitudes: [Nanodegrees; 15], n: u8) {
+fn with_points(
+    text: Text,
+    latitudes: [Nanodegrees; 15],
+    longitudes: [Nanodegrees; 15],
+    n: u8,
+) -> Text {
     let end = n as usize;
+    let mut said = text;
     let mut i: usize = 0;
     while i < 15 {
         if end <= i {
-            return;
+            return said;
         }
         let latitude = latitudes[i];
         let longitude = longitudes[i];
-        cases::print_signed(Whole(latitude.0));
-        cases::print_signed(Whole(longitude.0));
+        said = cases::with_signed(said, Whole(latitude.0));
+        said = cases::with_signed(said, Whole(longitude.0));
         i += 1;
     }
+    said
 }

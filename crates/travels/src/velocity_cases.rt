@@ -1,5 +1,6 @@
 // Cases of velocities.
 use crate::fields;
+use cases::Text;
 use ground::MetresPerHour;
 use ground::Millidegrees;
 use ground::Outcome;
@@ -24,46 +25,51 @@ pub fn velocity_in(case: &[u8]) -> VelocityQuantities {
 }
 
 // The answer to quantities, and what is made of the record.
-pub fn print_coded(quantities: VelocityQuantities) {
+pub fn with_coded(text: Text, quantities: VelocityQuantities) -> Text {
     let coded = motions::code_velocity(quantities);
     let outcome = coded.outcome;
-    cases::print_outcome(outcome);
+    let answered = cases::with_outcome(text, outcome);
     if let Outcome::Done = outcome {
-        print_record(coded.velocity);
+        return with_record(answered, coded.velocity);
     }
+    answered
 }
 
 // The record's message, and the quantities that it reports.
-fn print_record(velocity: Velocity) {
-    let mut octets = [0; 128];
-    let length = velocities::write_velocity(&mut octets, velocity).length;
-    if length <= 128 {
-        cases::print_octets(&octets[0..length]);
-    }
+fn with_record(text: Text, velocity: Velocity) -> Text {
+    let written = with_message(text, velocity);
     let reported = reports::report_velocity(velocity);
     let outcome = reported.outcome;
     if let Outcome::Done = outcome {
-        print_quantities(reported.quantities);
+        return with_quantities(written, reported.quantities);
     }
+    written
 }
 
-fn print_quantities(quantities: VelocityQuantities) {
+fn with_message(text: Text, velocity: Velocity) -> Text {
+    let mut octets = [0; 128];
+    let length = velocities::write_velocity(&mut octets, velocity).length;
+    if 128 < length {
+        return text;
+    }
+    cases::with_octets(text, &octets[0..length])
+}
+
+fn with_quantities(text: Text, quantities: VelocityQuantities) -> Text {
     let kind = quantities.kind;
     let uncertainty = quantities.uncertainty;
     let vertical_uncertainty = quantities.vertical_uncertainty;
-    cases::print_number(layout::velocity_type_number(kind) as u64);
-    cases::print_natural(quantities.bearing.0);
-    cases::print_natural(quantities.horizontal_speed.0);
-    cases::print_signed(cases::whole(quantities.vertical_speed.0));
-    print_uncertainty(uncertainty);
-    print_uncertainty(vertical_uncertainty);
+    let mut said = cases::with_number(text, layout::velocity_type_number(kind) as u64);
+    said = cases::with_natural(said, quantities.bearing.0);
+    said = cases::with_natural(said, quantities.horizontal_speed.0);
+    said = cases::with_signed(said, cases::whole(quantities.vertical_speed.0));
+    said = with_uncertainty(said, uncertainty);
+    with_uncertainty(said, vertical_uncertainty)
 }
 
-fn print_uncertainty(uncertainty: UncertaintySpeed) {
+fn with_uncertainty(text: Text, uncertainty: UncertaintySpeed) -> Text {
     match uncertainty {
-        UncertaintySpeed::Speed(speed) => cases::print_natural(speed.0),
-        UncertaintySpeed::Missing => {
-            io::write_all(1, b" -");
-        }
+        UncertaintySpeed::Speed(speed) => cases::with_natural(text, speed.0),
+        UncertaintySpeed::Missing => cases::with_part(text, b" -"),
     }
 }

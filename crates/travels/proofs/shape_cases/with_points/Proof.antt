@@ -1,14 +1,14 @@
--- Each turn prints one point.
+-- Each turn adds one point.
 use Prim.Native.Nat.{_-_, _≤_}
 use borrow.Author.Needs.{needs}
-use Rattle.travels.proofs.shape_cases.print_points.Statement.{statement}
-use Rattle.travels.proofs.shape_cases.print_points.Tie as tie
+use Rattle.travels.proofs.shape_cases.with_points.Statement.{statement}
+use Rattle.travels.proofs.shape_cases.with_points.Tie as tie
 
 abbrev Inv-loop : tie.InvT-loop
-Inv-loop n latitudes longitudes end i₀ i = i ≤ 15
+Inv-loop n latitudes longitudes end said₀ i₀ said i = i ≤ 15
 
 abbrev μ-loop : tie.MeasureT-loop
-μ-loop n latitudes longitudes end i₀ i = 15 - i
+μ-loop n latitudes longitudes end said₀ i₀ said i = 15 - i
 
 loop-holds : tie.Need-loop-holds Inv-loop μ-loop
 loop-holds c = search needs
@@ -28,11 +28,11 @@ mul-longitude c = search needs
 array-copy-out-longitude : tie.Need-array-copy-out-longitude Inv-loop μ-loop
 array-copy-out-longitude c = search needs
 
-print-signed-requires : tie.Need-print-signed-requires Inv-loop μ-loop
-print-signed-requires c κs = search needs
+with-signed-requires : tie.Need-with-signed-requires Inv-loop μ-loop
+with-signed-requires c κs = search needs
 
-print-signed-requires-2 : tie.Need-print-signed-requires-2 Inv-loop μ-loop
-print-signed-requires-2 c κs = search needs
+with-signed-requires-2 : tie.Need-with-signed-requires-2 Inv-loop μ-loop
+with-signed-requires-2 c κs = search needs
 
 add-i : tie.Need-add-i Inv-loop μ-loop
 add-i c = search needs
@@ -46,8 +46,8 @@ loop-again c = search needs
 returns-2 : tie.Need-returns-2 Inv-loop μ-loop
 returns-2 c = search needs
 
-pub print-points-spec : {M : Type 1} → statement M
-print-points-spec =
+pub with-points-spec : {M : Type 1} → statement M
+with-points-spec =
     tie.close
     (tie.spec
     Inv-loop
@@ -58,8 +58,8 @@ print-points-spec =
     array-copy-out-latitude
     mul-longitude
     array-copy-out-longitude
-    print-signed-requires
-    print-signed-requires-2
+    with-signed-requires
+    with-signed-requires-2
     add-i
     loop-less
     loop-again

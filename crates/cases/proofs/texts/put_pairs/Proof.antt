@@ -1,0 +1,64 @@
+-- The first i octets are put; one more goes after them.
+use mathlib.Core.Path.{_≡_, refl, _∙_}
+use Prim.Native.Nat.{_+_, _*_, _-_, _≤_}
+use lib.ListN.{length, take}
+use lib.Seq.{take-all}
+use native.Mathlib.Omega.{arith}
+use Rattle.text.specs.Text.{Puts}
+use Rattle.cases.specs.Texts.{pairsText}
+use Rattle.cases.proofs.TextLaws.{pairs-turn}
+use Rattle.text.proofs.OutputLaws.{none, kept}
+use borrow.Author.Needs.{needs}
+use Rattle.cases.proofs.texts.put_pairs.Statement.{statement}
+use Rattle.cases.proofs.texts.put_pairs.Tie as tie
+
+abbrev Inv-loop : tie.InvT-loop
+Inv-loop out₀ at s next₀ i₀ out next i = (i ≤ length s) × (next ≡ at + 2 * i) × Puts out₀ at (pairsText (take i s)) out next × (length out ≡ length out₀)
+
+abbrev μ-loop : tie.MeasureT-loop
+μ-loop out₀ at s next₀ i₀ out next i = length s - i
+
+loop-holds : tie.Need-loop-holds Inv-loop μ-loop
+unfolding pairsText
+loop-holds c = (omega arith, omega arith, none, refl)
+
+shared-slice-read-put-octet : tie.Need-shared-slice-read-put-octet Inv-loop μ-loop
+shared-slice-read-put-octet c = search needs
+
+put-octet-requires : tie.Need-put-octet-requires Inv-loop μ-loop
+put-octet-requires c κs = search needs
+
+add-i : tie.Need-add-i Inv-loop μ-loop
+add-i c = search needs
+
+loop-less : tie.Need-loop-less Inv-loop μ-loop
+loop-less c = search needs
+
+loop-again : tie.Need-loop-again Inv-loop μ-loop
+loop-again c =
+    let l = c .before .before .before .before .before .before .loop in
+    let p = c .before .before .put-octet .ensures in
+    (omega arith, omega (arith, p .place), pairs-turn (c .before .before .before .before .before .before .before .before .before .args .s .now) (l .i) (c .before .before .before .before .before .loop-test .taken) (l .inv .2) p, kept p ∙ l .inv .3)
+
+same-length : tie.Need-same-length Inv-loop μ-loop
+same-length c = search needs
+
+returns : tie.Need-returns Inv-loop μ-loop
+returns c =
+    let h : length (c .before .before .before .before .args .s .now) ≤ c .before .loop .i = c .loop-test .left in
+    rw (take-all (c .before .loop .i) (c .before .before .before .before .args .s .now) h) at (c .before .loop .inv .2)
+
+pub put-pairs-spec : {M : Type 1} → statement M
+put-pairs-spec =
+    tie.close
+    (tie.spec
+    Inv-loop
+    μ-loop
+    loop-holds
+    shared-slice-read-put-octet
+    put-octet-requires
+    add-i
+    loop-less
+    loop-again
+    same-length
+    returns)
