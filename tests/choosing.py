@@ -15,7 +15,7 @@ import re
 import sys
 from pathlib import Path
 
-from messages import SHAPES, octets, put_together, read
+from messages import SHAPES, octets, put_together, read, shown
 
 KINDS = (0, 1, 3, 8, 9)
 ALL = sum(1 << kind for kind in KINDS)
@@ -215,7 +215,7 @@ def choices_output(text):
             said.append("%d -" % count)
         else:
             answer, best = choose(request, list_of(listed), room)
-            said.append("%d %d %d %s" % (count, answer, len(best), (best + b"\xaa" * (room - len(best))).hex() or "-"))
+            said.append("%d %d %d %s" % (count, answer, len(best), shown(best + b"\xaa" * (room - len(best)))))
     return said + ["end %d" % len(lines_of(text))]
 
 

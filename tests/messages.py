@@ -126,6 +126,10 @@ def hexed(message):
     return message.hex() or "-"
 
 
+def shown(message):
+    return " ".join("%02X" % octet for octet in message) or "-"
+
+
 def answered(line):
     words = line.split(" ")
     layouts, order = (SHAPES, ORDER) if words[0].endswith("shape") else (VELOCITIES, MOVES)
@@ -138,13 +142,13 @@ def answered(line):
         padded = points + [{name: 0 for name, _ in POINT}] * (15 - len(points))
         again, message = write(layouts, order, kind, every, len(points), padded, 128)
         assert again == 0
-        return "0 " + hexed(message)
+        return "0 " + shown(message)
     room, kind, *numbers = map(int, words[1:])
     fields = dict(zip(order, numbers))
     rest = numbers[len(order):]
     count = rest[0] if order is ORDER else 0
     answer, message = write(layouts, order, kind, fields, count, [{name: 0 for name, _ in POINT}] * 15, room)
-    return "%d %d %s" % (answer, len(message), hexed(message + b"\xaa" * (room - len(message))))
+    return "%d %d %s" % (answer, len(message), shown(message + b"\xaa" * (room - len(message))))
 
 
 # ---- the cases

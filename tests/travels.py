@@ -17,7 +17,7 @@ from pathlib import Path
 
 from choosing import HALF_TURN, NINETY, altitude_codes, height_covers, latitude_codes, longitude_codes, near, radius_covers
 from listing import SAID, at_least, height, latitude, longitude, radius, with_sign
-from messages import MOVES, ORDER, SHAPES, TYPES, VELOCITIES, write
+from messages import MOVES, ORDER, SHAPES, TYPES, VELOCITIES, write, shown
 
 SIGNED_64, SIGNED_32, UNSIGNED_32, UNSIGNED_8 = (-2**63, 2**63 - 1), (-2**31, 2**31 - 1), (0, 2**32 - 1), (0, 255)
 MISSING = None
@@ -203,7 +203,7 @@ def message_of(layouts, kind, codes, count, point_codes):
     answer, message = write(layouts, order, kind, {name: codes.get(name, 0) for name in order}, count,
                             point_codes + [nowhere] * (15 - len(point_codes)), 128)
     assert answer == 0
-    return message.hex()
+    return shown(message)
 
 
 def answered(line):

@@ -1,5 +1,4 @@
 pub mod FieldLaws
 pub mod AmountLaws
 pub mod AskingLaws
-pub mod AnswerLaws
 pub mod EntryLaws

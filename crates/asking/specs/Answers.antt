@@ -1,25 +1,11 @@
 -- The text of an answer. Assumes nothing.
-use mathlib.Core.Bool.{cond}
 use mathlib.Core.List.{List, [], _∷_, _++_}
-use Prim.Native.Nat.{ℕ, _+_, _/_, _%_}
-use lib.Dec.{ltb}
+use Prim.Native.Nat.{ℕ}
 use Rattle.ground.specs.Answers.{numberOf}
 use Rattle.ground.specs.declared.refusals.Outcome.the-variants as outcome
-use Rattle.text.specs.Text.{decimal}
+use Rattle.text.specs.Text.{decimal, octetsText}
 use Rattle.asking.specs.declared.answers.Answer.{Answer}
 use Rattle.asking.specs.declared.answers.Answer.the-variants.{Unreadable, Chosen}
-
--- 0 to 9, A to F
-abbrev pub hexadecimal : ℕ → ℕ
-hexadecimal n = cond (ltb n 10) (48 + n) (55 + n)
-
--- a space and two digits
-abbrev pub octetText : ℕ → List ℕ
-octetText b = 32 ∷ hexadecimal (b / 16) ∷ hexadecimal (b % 16) ∷ []
-
-unfoldable pub octetsText : List ℕ → List ℕ
-octetsText [] = []
-octetsText (b ∷ s) = octetText b ++ octetsText s
 
 -- "-" for an unreadable line; 0 and the octets of the message; a refusal's number
 unfoldable pub saidText : Answer → List ℕ → List ℕ

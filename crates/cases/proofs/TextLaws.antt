@@ -1,16 +1,15 @@
 -- Laws of a text and of what is put behind it. Assumes nothing.
 use mathlib.Core.Path.{_≡_, refl, ap, _∙_}
-use mathlib.Core.List.{List, [], _∷_, _++_}
-use Prim.Native.Nat.{ℕ, _+_, _-_, _*_, _/_, _%_, _≤_, _<_}
+use mathlib.Core.List.{List, [], _∷_}
+use Prim.Native.Nat.{ℕ, _+_, _-_, _≤_, _<_}
 use native.Mathlib.Omega.{arith}
-use native.Mathlib.Numerals.{add-one}
-use lib.ListN.{length, getD, take}
-use lib.Seq.{take-suc}
+use lib.ListN.{length, take}
 use borrow.Author.Tests.{lt-ltb, le-ltb}
-use Rattle.text.specs.Text.{Puts, PutsWithin}
-use Rattle.text.proofs.OutputLaws.{then, text-so-far}
+use Rattle.text.specs.Text.{Puts, PutsWithin, octetsText}
+use Rattle.text.proofs.OutputLaws.{text-so-far}
+use Rattle.text.proofs.OctetLaws.{octets-length}
 use Rattle.cases.specs.declared.texts.Text.{Text}
-use Rattle.cases.specs.Texts.{joined, octetText, pairsText, octetsText}
+use Rattle.cases.specs.Texts.{joined, shownText}
 
 -- no room
 pub joined-full : (t : Text) (s : List ℕ) → 2048 < t .length + length s → t ≡ joined t s
@@ -29,35 +28,16 @@ joined-put t {y = y} {n = n} p h e =
     let same : n - 0 ≡ n = omega arith in
     e ∙ ap (joined t) (ap (λ (k : ℕ). take k y) same ∙ text-so-far (p .puts) (omega (arith, p .within)))
 
-pairs-append : (s t : List ℕ) → pairsText (s ++ t) ≡ pairsText s ++ pairsText t
-unfolding pairsText
-pairs-append [] t = refl
-pairs-append (b ∷ s) t = rw (pairs-append s t)
+pub octets-most : (s : List ℕ) → length s ≤ 682 → length (octetsText s) ≤ 2046
+octets-most s h = omega (arith, octets-length s)
 
--- one octet more
-pairs-more : (s : List ℕ) (i : ℕ) → i < length s → pairsText (take (i + 1) s) ≡ pairsText (take i s) ++ octetText (getD s i 0)
-unfolding pairsText
-pairs-more s i h = rw (add-one i, take-suc s i 0 h, pairs-append (take i s) (getD s i 0 ∷ []))
+-- " -" for no octets
+pub shown-none : (s : List ℕ) → length s ≡ 0 → shownText s ≡ 32 ∷ 45 ∷ []
+unfolding shownText
+shown-none [] h = refl
+shown-none (b ∷ s) h = absurd (omega arith)
 
-pub pairs-turn : {x y z : List ℕ} {at j k : ℕ} (s : List ℕ) (i : ℕ) → i < length s → Puts x at (pairsText (take i s)) y j → Puts y j (octetText (getD s i 0)) z k
-    → Puts x at (pairsText (take (i + 1) s)) z k
-pairs-turn s i h p q = rw (pairs-more s i h) (then p q)
-
-pub pairs-length : (s : List ℕ) → length (pairsText s) ≡ 2 * length s
-unfolding pairsText
-pairs-length [] = refl
-pairs-length (b ∷ s) = omega (arith, pairs-length s)
-
-pub pairs-most : (s : List ℕ) → length s ≤ 1023 → length (pairsText s) ≤ 2046
-pairs-most s h = omega (arith, pairs-length s)
-
--- "-" for no octets
-pub octets-none : (s : List ℕ) → length s ≡ 0 → octetsText s ≡ 45 ∷ []
-unfolding octetsText
-octets-none [] h = refl
-octets-none (b ∷ s) h = absurd (omega arith)
-
-pub octets-some : (s : List ℕ) → 0 < length s → octetsText s ≡ pairsText s
-unfolding octetsText
-octets-some [] h = absurd (omega arith)
-octets-some (b ∷ s) h = refl
+pub shown-some : (s : List ℕ) → 0 < length s → shownText s ≡ octetsText s
+unfolding shownText
+shown-some [] h = absurd (omega arith)
+shown-some (b ∷ s) h = refl

@@ -3,13 +3,11 @@ use ground::Outcome;
 use ground::Whole;
 ghost use mathlib.Core.Path.{_≡_};
 ghost use mathlib.Core.List.{_∷_};
-ghost use Prim.Native.Nat.{_*_, _+_, _≤_, _<_};
-ghost use lib.ListN.{length};
 ghost use Rattle.ground.specs.Answers.{outcomeNumber};
-ghost use Rattle.text.specs.Text.{Puts, decimal, signedDecimal};
-ghost use Rattle.cases.specs.Texts.{noText, joined, hexadecimal, octetText, pairsText, octetsText};
+ghost use Rattle.text.specs.Text.{decimal, signedDecimal};
+ghost use Rattle.cases.specs.Texts.{noText, joined, shownText};
 
-// A text's octets. No line of the programs takes more than 1205: a shape of fifteen points and its message in `travels`.
+// A text's octets. No line of the programs takes more than 1296: a shape of fifteen points and its message in `travels`.
 const ROOM: usize = 2048;
 
 pub struct Text {
@@ -89,51 +87,17 @@ pub fn with_outcome(text: Text, outcome: Outcome) -> Text
     }
 }
 
-// A space and the octets as digits, `-` for none. A text has no room for more than 1023 octets.
+// Octets as digits, ` -` for none. A text has no room for more than 682 octets.
 pub fn with_octets(text: Text, s: &[u8]) -> Text
-    ensures { λ r. ⌜ r ≡ joined text (32 ∷ octetsText (now (s .entry))) ⌝ }
+    ensures { λ r. ⌜ r ≡ joined text (shownText (now (s .entry))) ⌝ }
 {
     if s.len() == 0 {
         return with_part(text, b" -");
     }
-    if 1023 < s.len() {
+    if 682 < s.len() {
         return text;
     }
     let mut shown = [0; 2048];
-    let pairs = text::put_byte(&mut shown, 0, 32);
-    let end = put_pairs(&mut shown, pairs, s);
+    let end = text::put_octets(&mut shown, 0, s);
     with_part(text, &shown[0..end])
-}
-
-// Puts two digits for each octet, and answers the place after them.
-fn put_pairs(out: &mut [u8], at: usize, s: &[u8]) -> usize
-    requires { ⌜ at + 2 * length (now s) ≤ length (now out) ⌝ }
-    ensures { λ r. ⌜ Puts (now (out .entry)) at (pairsText (now (s .entry))) (now (out .exit)) r ⌝ }
-{
-    let mut next = at;
-    let mut i = 0;
-    while i < s.len() {
-        next = put_octet(out, next, s[i]);
-        i += 1;
-    }
-    next
-}
-
-fn put_octet(out: &mut [u8], at: usize, octet: u8) -> usize
-    requires { ⌜ at + 2 ≤ length (now out) ⌝ }
-    ensures { λ r. ⌜ Puts (now (out .entry)) at (octetText octet) (now (out .exit)) r ⌝ }
-{
-    let next = text::put_byte(out, at, digit_of(octet / 16));
-    text::put_byte(out, next, digit_of(octet % 16))
-}
-
-// A lower-case digit.
-fn digit_of(value: u8) -> u8
-    requires { ⌜ value < 16 ⌝ }
-    ensures { λ r. ⌜ r ≡ hexadecimal value ⌝ }
-{
-    if value < 10 {
-        return 48 + value;
-    }
-    87 + value
 }

@@ -1,5 +1,5 @@
 // Chooses over stored cases, a line each: the receiver's list, a number of octets, and the eight fields of a request. Prints the
-// line's number, the answer, the length and a buffer of so many octets, all aa before; `-` for what can't be read.
+// line's number, the answer, the length and a buffer of so many octets, all AA before; `-` for what can't be read.
 // tests/choosing.py works out what must be printed.
 use asking::Asked;
 use cases::Text;

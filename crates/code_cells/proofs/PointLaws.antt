@@ -29,6 +29,15 @@ module _ (latitudes : List LatitudeCode) (longitudes : List LongitudeCode) where
       (ap (λ (k : ℕ). sets (sets o 16 (pointCells latitudes longitudes n)) (16 + k) (bitOf (getD latitudes n zeroLatitude .0) ∷ v ∷ bitsOf (getD longitudes n zeroLongitude .0) ∷ [])) (sym (length-points n))
       ∙ sets-append o 16 (pointCells latitudes longitudes n) _)
 
+  -- after the last of n points there are zeros
+  module _ {n : ℕ} (e : Ended latitudes longitudes n) where
+    zeros-after : (d : ℕ) → pointCells latitudes longitudes (n + d) ≡ pointCells latitudes longitudes n ++ replicate (3 * d) 0
+    zeros-after zero = ?
+    zeros-after (suc d) = ?
+
+    pub all-points : pointCells latitudes longitudes 15 ≡ pointCells latitudes longitudes n ++ replicate (45 - 3 * n) 0
+    all-points = ?
+
 -- a list of fifteen of which the first i are filled
 module _ {A : Type 0} (f : ℕ → A) (z : A) {l : List A} {i : ℕ} (e : l ≡ upto i f ++ replicate (15 - i) z) where
   pub one-filled : (a : A) → i < 15 → a ≡ f i → set l i a ≡ upto (i + 1) f ++ replicate (15 - (i + 1)) z

@@ -1,4 +1,5 @@
 -- A SHAPE'S CODES IN 61 CELLS. Assumes nothing.
+use mathlib.Core.Path.{_≡_}
 use mathlib.Core.List.{List, [], _∷_, _++_}
 use Prim.Native.Nat.{ℕ, zero, suc, _+_, _*_, _≤_, _<_}
 use lib.ListN.{getD, take}
@@ -54,6 +55,12 @@ pointCells latitudes longitudes (suc n) =
 -- a record in its cells
 abbrev pub shapeCells : Shape → List ℕ
 shapeCells x = singleCells x ++ pointCells (x .latitudes) (x .longitudes) 15
+
+-- of these points there are n, at most fifteen, and what comes after the last is zero
+pub record Ended (latitudes : List LatitudeCode) (longitudes : List LongitudeCode) (n : ℕ) : Type 0 where
+  pub most : n ≤ 15
+  pub no-latitude : (i : ℕ) → n ≤ i → getD latitudes i zeroLatitude ≡ zeroLatitude
+  pub no-longitude : (i : ℕ) → n ≤ i → getD longitudes i zeroLongitude ≡ zeroLongitude
 
 -- ---- the record that cells say
 

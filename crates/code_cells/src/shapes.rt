@@ -13,24 +13,26 @@ use ground::UncertaintyCode;
 use layout::Shape;
 ghost use mathlib.Core.Path.{_≡_};
 ghost use mathlib.Core.List.{_++_};
-ghost use Prim.Native.Nat.{_≤_};
-ghost use lib.ListN.{length, drop};
+ghost use Prim.Native.Nat.{_+_, _*_, _-_, _≤_};
+ghost use lib.ListN.{length, drop, replicate};
 ghost use Rattle.ground.specs.Answers.{Decides};
 ghost use Rattle.code_cells.specs.Shapes.{shapeCells, singleCells, heldShape, heldLatitude, heldLongitude, Whole, WholeFields, WholePoints, largestNumbers};
 ghost use Rattle.layout.specs.Shapes.{upto};
 ghost use lib.Seq.{sets};
-ghost use Rattle.code_cells.specs.Shapes.{pointCells};
+ghost use Rattle.code_cells.specs.Shapes.{pointCells, Ended};
 
 // Puts the cells of a record into the first of the array.
 pub fn put_shape(out: &mut [u32], shape: Shape)
     requires { ⌜ 61 ≤ length (now out) ⌝ }
+    requires { ⌜ Ended (shape .latitudes) (shape .longitudes) (shape .count) ⌝ }
     ensures { λ _. ⌜ now (out .exit) ≡ shapeCells shape ++ drop 61 (now (out .entry)) ⌝ }
 {
     let singles = single_cells(shape);
     let latitudes = shape.latitudes;
     let longitudes = shape.longitudes;
     cells::put_codes(out, &singles);
-    put_points(out, latitudes, longitudes);
+    put_points(out, latitudes, longitudes, shape.count);
+    clear_from(out, shape.count);
 }
 
 // The cells before the points.
@@ -71,19 +73,39 @@ fn single_cells(shape: Shape) -> [u32; 16]
     ]
 }
 
-// Puts the cells of the points.
-fn put_points(out: &mut [u32], latitudes: [LatitudeCode; 15], longitudes: [LongitudeCode; 15])
+// Puts the cells of the first n points.
+fn put_points(
+    out: &mut [u32],
+    latitudes: [LatitudeCode; 15],
+    longitudes: [LongitudeCode; 15],
+    n: u8,
+)
     requires { ⌜ 61 ≤ length (now out) ⌝ }
-    ensures { λ _. ⌜ now (out .exit) ≡ sets (now (out .entry)) 16 (pointCells latitudes longitudes 15) ⌝ }
+    requires { ⌜ n ≤ 15 ⌝ }
+    ensures { λ _. ⌜ now (out .exit) ≡ sets (now (out .entry)) 16 (pointCells latitudes longitudes n) ⌝ }
 {
+    let end = n as usize;
     let mut i = 0;
-    while i < 15 {
+    while i < end {
         let latitude = latitudes[i];
         let longitude = longitudes[i];
         let at = 16 + 3 * i;
         out[at] = cells::bit(latitude.0);
         out[at + 1] = latitude.1;
         out[at + 2] = cells::complement_of(longitude);
+        i += 1;
+    }
+}
+
+// Puts zeros for the points after the first n.
+fn clear_from(out: &mut [u32], n: u8)
+    requires { ⌜ 61 ≤ length (now out) ⌝ }
+    requires { ⌜ n ≤ 15 ⌝ }
+    ensures { λ _. ⌜ now (out .exit) ≡ sets (now (out .entry)) (16 + 3 * n) (replicate (45 - 3 * n) 0) ⌝ }
+{
+    let mut i = 16 + 3 * (n as usize);
+    while i < 61 {
+        out[i] = 0;
         i += 1;
     }
 }

@@ -1,6 +1,6 @@
 // Reads and writes messages, a case a line. `shape HEX` and `velocity HEX` (`-`: no octets) print the line's number, the
 // answer, and on 0 the message that the record gives when it is written again. `put-shape ROOM TYPE CODES..` and
-// `put-velocity ROOM TYPE CODES..` write a record into so many octets, all aa before, and print the answer, the length and
+// `put-velocity ROOM TYPE CODES..` write a record into so many octets, all AA before, and print the answer, the length and
 // the buffer. tests/messages.py works out what must be printed.
 mod shape_cases;
 mod velocity_cases;

@@ -82,23 +82,35 @@ fn joined(
 ) -> Shape
     ensures { λ r. ⌜ r ≡ shapeJoined kind count altitude «inner_radius» ranged sizes points ⌝ }
 {
+    let latitude = ranged.latitude;
+    let longitude = ranged.longitude;
+    let uncertainty = sizes.uncertainty;
+    let semi_major = sizes.semi_major;
+    let semi_minor = sizes.semi_minor;
+    let orientation = ranged.orientation;
+    let altitude_uncertainty = sizes.altitude_uncertainty;
+    let confidence = ranged.confidence;
+    let offset = ranged.offset;
+    let included = ranged.included;
+    let latitudes = points.latitudes;
+    let longitudes = points.longitudes;
     Shape {
         kind,
-        latitude: ranged.latitude,
-        longitude: ranged.longitude,
+        latitude,
+        longitude,
         altitude,
-        uncertainty: sizes.uncertainty,
-        semi_major: sizes.semi_major,
-        semi_minor: sizes.semi_minor,
-        orientation: ranged.orientation,
-        altitude_uncertainty: sizes.altitude_uncertainty,
-        confidence: ranged.confidence,
+        uncertainty,
+        semi_major,
+        semi_minor,
+        orientation,
+        altitude_uncertainty,
+        confidence,
         inner_radius,
-        offset: ranged.offset,
-        included: ranged.included,
+        offset,
+        included,
         count,
-        latitudes: points.latitudes,
-        longitudes: points.longitudes,
+        latitudes,
+        longitudes,
     }
 }
 

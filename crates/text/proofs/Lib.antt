@@ -1,2 +1,3 @@
 pub mod OutputLaws
 pub mod WithinLaws
+pub mod OctetLaws

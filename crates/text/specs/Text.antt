@@ -32,6 +32,19 @@ unfoldable pub signedDecimal : ℤ → List ℕ
 signedDecimal (pos n) = decimal n
 signedDecimal (negsuc n) = 45 ∷ decimal (suc n)
 
+-- 0 to 9, A to F
+abbrev pub hexadecimal : ℕ → ℕ
+hexadecimal n = cond (ltb n 10) (48 + n) (55 + n)
+
+-- a space and two digits
+abbrev pub octetText : ℕ → List ℕ
+octetText b = 32 ∷ hexadecimal (b / 16) ∷ hexadecimal (b % 16) ∷ []
+
+-- octets, a space before each
+unfoldable pub octetsText : List ℕ → List ℕ
+octetsText [] = []
+octetsText (b ∷ s) = octetText b ++ octetsText s
+
 -- `after` is `before` with the text put at `at`, all else as it was, and `next` is the place past it
 pub record Puts (before : List ℕ) (at : ℕ) (text after : List ℕ) (next : ℕ) : Type 0 where
   pub content : after ≡ sets before at text

@@ -1,9 +1,10 @@
 // The text of the programs, put into a lent buffer: what stood before and after it stays as it was.
 use ground::Whole;
 ghost use mathlib.Core.List.{[], _∷_};
-ghost use Prim.Native.Nat.{_+_, _≤_, _<_};
+ghost use mathlib.Core.Path.{_≡_};
+ghost use Prim.Native.Nat.{_+_, _*_, _≤_, _<_};
 ghost use lib.ListN.{length};
-ghost use Rattle.text.specs.Text.{Puts, decimal, pair, four, eight, signedDecimal};
+ghost use Rattle.text.specs.Text.{Puts, decimal, pair, four, eight, signedDecimal, hexadecimal, octetText, octetsText};
 
 // Puts one octet at `at`, and answers the place after it.
 pub fn put_byte(out: &mut [u8], at: usize, b: u8) -> usize
@@ -127,4 +128,39 @@ pub fn put_bytes(out: &mut [u8], at: usize, src: &[u8]) -> usize
         i += 1;
     }
     at + i
+}
+
+// Puts octets as digits, and answers the place after them.
+pub fn put_octets(out: &mut [u8], at: usize, src: &[u8]) -> usize
+    requires { ⌜ at + 3 * length (now src) ≤ length (now out) ⌝ }
+    ensures { λ r. ⌜ Puts (now (out .entry)) at (octetsText (now (src .entry))) (now (out .exit)) r ⌝ }
+{
+    let mut next = at;
+    let mut i = 0;
+    while i < src.len() {
+        next = put_octet(out, next, src[i]);
+        i += 1;
+    }
+    next
+}
+
+// Puts a space and the two digits of an octet.
+fn put_octet(out: &mut [u8], at: usize, octet: u8) -> usize
+    requires { ⌜ at + 3 ≤ length (now out) ⌝ }
+    ensures { λ r. ⌜ Puts (now (out .entry)) at (octetText octet) (now (out .exit)) r ⌝ }
+{
+    let first = put_byte(out, at, 32);
+    let second = put_byte(out, first, digit_of(octet / 16));
+    put_byte(out, second, digit_of(octet % 16))
+}
+
+// An upper-case digit.
+fn digit_of(value: u8) -> u8
+    requires { ⌜ value < 16 ⌝ }
+    ensures { λ r. ⌜ r ≡ hexadecimal value ⌝ }
+{
+    if value < 10 {
+        return 48 + value;
+    }
+    55 + value
 }

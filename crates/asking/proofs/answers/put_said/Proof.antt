@@ -4,8 +4,9 @@ use lib.ListN.{length}
 use native.Mathlib.Omega.{arith}
 use Rattle.text.proofs.OutputLaws.{decimal-most}
 use Rattle.text.proofs.WithinLaws.{within, octet-within, decimal-within, after, fewer}
-use Rattle.asking.specs.Answers.{saidText, octetsText}
-use Rattle.asking.proofs.AnswerLaws.{octets-length}
+use Rattle.text.specs.Text.{octetsText}
+use Rattle.text.proofs.OctetLaws.{octets-length}
+use Rattle.asking.specs.Answers.{saidText}
 use borrow.Author.Needs.{needs}
 use Rattle.asking.proofs.answers.put_said.Statement.{statement}
 use Rattle.asking.proofs.answers.put_said.Tie as tie

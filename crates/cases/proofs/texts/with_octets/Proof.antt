@@ -3,8 +3,9 @@ use mathlib.Core.Path.{ap}
 use lib.ListN.{length}
 use native.Mathlib.Omega.{arith}
 use Rattle.text.proofs.OutputLaws.{kept}
-use Rattle.text.proofs.WithinLaws.{octet-within, within, after}
-use Rattle.cases.proofs.TextLaws.{joined-full, joined-put, pairs-length, pairs-most, octets-none, octets-some}
+use Rattle.text.proofs.OctetLaws.{octets-length}
+use Rattle.text.proofs.WithinLaws.{within}
+use Rattle.cases.proofs.TextLaws.{joined-full, joined-put, octets-most, shown-none, shown-some}
 use borrow.Author.Needs.{needs}
 use Rattle.cases.proofs.texts.with_octets.Statement.{statement}
 use Rattle.cases.proofs.texts.with_octets.Tie as tie
@@ -16,25 +17,19 @@ with-part-requires : tie.Need-with-part-requires
 with-part-requires c κs = search needs
 
 returns : tie.Need-returns
-returns c = rw (octets-none (c .before .before .before .before .args .s .now) (omega arith)) (c .with-part .ensures)
+returns c = rw (shown-none (c .before .before .before .before .args .s .now) (omega arith)) (c .with-part .ensures)
 
 returns-2 : tie.Need-returns-2
 returns-2 c =
     let s = c .before .before .before .args .s .now in
-    let some = octets-some s (omega arith) in
-    joined-full _ _ (omega (arith, ap length some, pairs-length s))
+    let some = shown-some s (omega arith) in
+    joined-full _ _ (omega (arith, ap length some, octets-length s))
 
-slice-aggregate-put-byte : tie.Need-slice-aggregate-put-byte
-slice-aggregate-put-byte c = search needs
+slice-aggregate-put-octets : tie.Need-slice-aggregate-put-octets
+slice-aggregate-put-octets c = search needs
 
-put-byte-requires : tie.Need-put-byte-requires
-put-byte-requires c κs = search needs
-
-slice-aggregate-put-pairs : tie.Need-slice-aggregate-put-pairs
-slice-aggregate-put-pairs c = search needs
-
-put-pairs-requires : tie.Need-put-pairs-requires
-put-pairs-requires c κs = search needs
+put-octets-requires : tie.Need-put-octets-requires
+put-octets-requires c κs = search needs
 
 sub-with-part : tie.Need-sub-with-part
 sub-with-part c = search needs
@@ -44,8 +39,8 @@ part-with-part-start c = search needs
 
 part-with-part-end : tie.Need-part-with-part-end
 part-with-part-end c =
-    let s = c .before .before .before .before .before .before .before .before .before .before .args .s .now in
-    let put = after (octet-within (c .before .before .before .before .before .put-byte .ensures)) (within (pairs-most s (omega arith)) (c .before .before .put-pairs .ensures)) in
+    let s = c .before .before .before .before .before .before .before .args .s .now in
+    let put = within (octets-most s (omega arith)) (c .before .before .put-octets .ensures) in
     omega (arith, put .within, kept (put .puts))
 
 with-part-requires-2 : tie.Need-with-part-requires-2
@@ -53,8 +48,8 @@ with-part-requires-2 c κs = search needs
 
 returns-3 : tie.Need-returns-3
 returns-3 c =
-    let s = c .before .before .before .before .before .before .before .before .before .before .before .before .args .s .now in
-    rw (octets-some s (omega arith)) (joined-put _ (after (octet-within (c .before .before .before .before .before .before .before .put-byte .ensures)) (within (pairs-most s (omega arith)) (c .before .before .before .before .put-pairs .ensures))) (omega arith) (c .with-part2 .ensures))
+    let s = c .before .before .before .before .before .before .before .before .before .args .s .now in
+    rw (shown-some s (omega arith)) (joined-put _ (within (octets-most s (omega arith)) (c .before .before .before .before .put-octets .ensures)) (omega arith) (c .with-part2 .ensures))
 
 pub with-octets-spec : {M : Type 1} → statement M
 with-octets-spec =
@@ -64,10 +59,8 @@ with-octets-spec =
     with-part-requires
     returns
     returns-2
-    slice-aggregate-put-byte
-    put-byte-requires
-    slice-aggregate-put-pairs
-    put-pairs-requires
+    slice-aggregate-put-octets
+    put-octets-requires
     sub-with-part
     part-with-part-start
     part-with-part-end

@@ -1,8 +1,8 @@
 -- A space and two digits, one after the other.
-use Rattle.asking.proofs.AnswerLaws.{octet-put}
+use Rattle.text.proofs.OctetLaws.{octet-put}
 use borrow.Author.Needs.{needs}
-use Rattle.asking.proofs.answers.put_octet.Statement.{statement}
-use Rattle.asking.proofs.answers.put_octet.Tie as tie
+use Rattle.text.proofs.put_octet.Statement.{statement}
+use Rattle.text.proofs.put_octet.Tie as tie
 
 put-byte-requires : tie.Need-put-byte-requires
 put-byte-requires c κs = search needs

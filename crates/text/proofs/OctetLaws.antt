@@ -1,4 +1,4 @@
--- Laws of the octets of a message as text. Assumes nothing.
+-- Laws of octets as text. Assumes nothing.
 use mathlib.Core.Path.{_≡_, refl}
 use mathlib.Core.List.{List, [], _∷_, _++_}
 use Prim.Native.Nat.{ℕ, _+_, _*_, _/_, _%_, _<_}
@@ -6,9 +6,8 @@ use native.Mathlib.Omega.{arith}
 use native.Mathlib.Numerals.{add-one}
 use lib.ListN.{length, getD, take}
 use lib.Seq.{take-suc}
-use Rattle.text.specs.Text.{Puts}
+use Rattle.text.specs.Text.{Puts, hexadecimal, octetText, octetsText}
 use Rattle.text.proofs.OutputLaws.{then}
-use Rattle.asking.specs.Answers.{hexadecimal, octetText, octetsText}
 
 octets-append : (s t : List ℕ) → octetsText (s ++ t) ≡ octetsText s ++ octetsText t
 unfolding octetsText

@@ -4,19 +4,18 @@ use Prim.Native.Nat.{_+_, _*_, _-_, _≤_}
 use lib.ListN.{length, take}
 use lib.Seq.{take-all}
 use native.Mathlib.Omega.{arith}
-use Rattle.text.specs.Text.{Puts}
-use Rattle.asking.specs.Answers.{octetsText}
-use Rattle.asking.proofs.AnswerLaws.{octets-turn}
+use Rattle.text.specs.Text.{Puts, octetsText}
+use Rattle.text.proofs.OctetLaws.{octets-turn}
 use Rattle.text.proofs.OutputLaws.{none, kept}
 use borrow.Author.Needs.{needs}
-use Rattle.asking.proofs.answers.put_octets.Statement.{statement}
-use Rattle.asking.proofs.answers.put_octets.Tie as tie
+use Rattle.text.proofs.put_octets.Statement.{statement}
+use Rattle.text.proofs.put_octets.Tie as tie
 
 abbrev Inv-loop : tie.InvT-loop
-Inv-loop out₀ at message next₀ i₀ out next i = (i ≤ length message) × (next ≡ at + 3 * i) × Puts out₀ at (octetsText (take i message)) out next × (length out ≡ length out₀)
+Inv-loop out₀ at src next₀ i₀ out next i = (i ≤ length src) × (next ≡ at + 3 * i) × Puts out₀ at (octetsText (take i src)) out next × (length out ≡ length out₀)
 
 abbrev μ-loop : tie.MeasureT-loop
-μ-loop out₀ at message next₀ i₀ out next i = length message - i
+μ-loop out₀ at src next₀ i₀ out next i = length src - i
 
 loop-holds : tie.Need-loop-holds Inv-loop μ-loop
 unfolding octetsText
@@ -38,15 +37,15 @@ loop-again : tie.Need-loop-again Inv-loop μ-loop
 loop-again c =
     let l = c .before .before .before .before .before .before .loop in
     let p = c .before .before .put-octet .ensures in
-    (omega arith, omega (arith, p .place), octets-turn (c .before .before .before .before .before .before .before .before .before .args .message .now) (l .i) (c .before .before .before .before .before .loop-test .taken) (l .inv .2) p, kept p ∙ l .inv .3)
+    (omega arith, omega (arith, p .place), octets-turn (c .before .before .before .before .before .before .before .before .before .args .src .now) (l .i) (c .before .before .before .before .before .loop-test .taken) (l .inv .2) p, kept p ∙ l .inv .3)
 
 same-length : tie.Need-same-length Inv-loop μ-loop
 same-length c = search needs
 
 returns : tie.Need-returns Inv-loop μ-loop
 returns c =
-    let h : length (c .before .before .before .before .args .message .now) ≤ c .before .loop .i = c .loop-test .left in
-    rw (take-all (c .before .loop .i) (c .before .before .before .before .args .message .now) h) at (c .before .loop .inv .2)
+    let h : length (c .before .before .before .before .args .src .now) ≤ c .before .loop .i = c .loop-test .left in
+    rw (take-all (c .before .loop .i) (c .before .before .before .before .args .src .now) h) at (c .before .loop .inv .2)
 
 pub put-octets-spec : {M : Type 1} → statement M
 put-octets-spec =

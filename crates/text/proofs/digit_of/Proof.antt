@@ -2,8 +2,8 @@
 use native.Mathlib.Omega.{arith}
 use borrow.Author.Tests.{lt-ltb, le-ltb}
 use borrow.Author.Needs.{needs}
-use Rattle.cases.proofs.texts.digit_of.Statement.{statement}
-use Rattle.cases.proofs.texts.digit_of.Tie as tie
+use Rattle.text.proofs.digit_of.Statement.{statement}
+use Rattle.text.proofs.digit_of.Tie as tie
 
 add-result : tie.Need-add-result
 add-result c = search needs
