@@ -1,10 +1,11 @@
 -- The fifteen points: their cells put one point after another, and a list of them filled from the front. Assumes nothing.
 use mathlib.Core.Path.{_≡_, refl, sym, ap, _∙_, subst}
-use mathlib.Core.List.{List, [], _∷_, _++_}
+use mathlib.Core.List.{List, [], _∷_, _++_, append-assoc, append-nil}
 use Prim.Native.Nat.{ℕ, zero, suc, _+_, _-_, _*_, _≤_, _<_}
+use native.Mathlib.Nat.{add-zero, add-suc}
 use native.Mathlib.Numerals.{add-one}
 use native.Mathlib.Omega.{arith}
-use lib.ListN.{length, length-append, getD, set, replicate}
+use lib.ListN.{length, length-append, getD, set, replicate, length-replicate, replicate-append-replicate}
 use lib.Seq.{sets}
 use Rattle.ground.specs.declared.codes.LatitudeCode.{LatitudeCode}
 use Rattle.ground.specs.declared.codes.LongitudeCode.{LongitudeCode}
@@ -13,7 +14,7 @@ use Rattle.layout.specs.Shapes.{upto, zeroLatitude, zeroLongitude}
 use Rattle.fetching.proofs.Filling.{fill}
 use Rattle.cells.specs.Codes.{bitsOf}
 use Rattle.ground.proofs.ListLaws.{sets-append}
-use Rattle.code_cells.specs.Shapes.{pointCells}
+use Rattle.code_cells.specs.Shapes.{pointCells, Ended}
 
 module _ (latitudes : List LatitudeCode) (longitudes : List LongitudeCode) where
   pub length-points : (n : ℕ) → length (pointCells latitudes longitudes n) ≡ 3 * n
@@ -32,11 +33,43 @@ module _ (latitudes : List LatitudeCode) (longitudes : List LongitudeCode) where
   -- after the last of n points there are zeros
   module _ {n : ℕ} (e : Ended latitudes longitudes n) where
     zeros-after : (d : ℕ) → pointCells latitudes longitudes (n + d) ≡ pointCells latitudes longitudes n ++ replicate (3 * d) 0
-    zeros-after zero = ?
-    zeros-after (suc d) = ?
+    zeros-after zero = rw (add-zero n) (sym (append-nil _))
+    zeros-after (suc d) =
+        let p = e .no-latitude (n + d) (omega arith) in
+        let q = e .no-longitude (n + d) (omega arith) in
+        let w : 3 * d + 3 ≡ 3 * suc d = omega arith in
+        rw (add-suc n d, p, q, zeros-after d)
+        (append-assoc (pointCells latitudes longitudes n) (replicate (3 * d) 0) _
+        ∙ ap (λ (t : List ℕ). pointCells latitudes longitudes n ++ t) (replicate-append-replicate (3 * d) 3 0 ∙ ap (λ (k : ℕ). replicate k 0) w))
 
-    pub all-points : pointCells latitudes longitudes 15 ≡ pointCells latitudes longitudes n ++ replicate (45 - 3 * n) 0
-    all-points = ?
+    all-points : pointCells latitudes longitudes 15 ≡ pointCells latitudes longitudes n ++ replicate (45 - 3 * n) 0
+    all-points =
+        let m = e .most in
+        let d : n + (15 - n) ≡ 15 = omega arith in
+        let w : 3 * (15 - n) ≡ 45 - 3 * n = omega arith in
+        ap (pointCells latitudes longitudes) (sym d) ∙ zeros-after (15 - n) ∙ ap (λ (k : ℕ). pointCells latitudes longitudes n ++ replicate k 0) w
+
+    -- the points, and zeros after them, are the fifteen
+    pub points-put : (l : List ℕ) → sets (sets l 16 (pointCells latitudes longitudes n)) (16 + 3 * n) (replicate (45 - 3 * n) 0) ≡ sets l 16 (pointCells latitudes longitudes 15)
+    points-put l =
+        let zeros : List ℕ = replicate (45 - 3 * n) 0 in
+        ap (λ (k : ℕ). sets (sets l 16 (pointCells latitudes longitudes n)) (16 + k) zeros) (sym (length-points n))
+        ∙ sets-append l 16 (pointCells latitudes longitudes n) zeros
+        ∙ ap (λ (t : List ℕ). sets l 16 t) (sym all-points)
+
+-- no zero yet
+pub none-cleared : (o : List ℕ) (from : ℕ) → o ≡ sets o from (replicate (from - from) 0)
+none-cleared o from = let k : from - from ≡ 0 = omega arith in rw k
+
+-- one zero more
+pub one-cleared : (o out : List ℕ) (from i : ℕ) → from ≤ i → out ≡ sets o from (replicate (i - from) 0) → set out i 0 ≡ sets o from (replicate (i + 1 - from) 0)
+one-cleared o out from i h e =
+    let k : from + length {A = ℕ} (replicate (i - from) 0) ≡ i = omega (arith, length-replicate {A = ℕ} (i - from) 0) in
+    let w : i - from + 1 ≡ i + 1 - from = omega arith in
+    ap (λ (l : List ℕ). set l i 0) e
+    ∙ ap (λ (j : ℕ). sets (sets o from (replicate (i - from) 0)) j (0 ∷ [])) (sym k)
+    ∙ sets-append o from (replicate (i - from) 0) (0 ∷ [])
+    ∙ ap (λ (t : List ℕ). sets o from t) (replicate-append-replicate (i - from) 1 0 ∙ ap (λ (m : ℕ). replicate m 0) w)
 
 -- a list of fifteen of which the first i are filled
 module _ {A : Type 0} (f : ℕ → A) (z : A) {l : List A} {i : ℕ} (e : l ≡ upto i f ++ replicate (15 - i) z) where

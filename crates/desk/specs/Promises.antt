@@ -4,9 +4,12 @@ use mathlib.Core.List.{List}
 use Prim.Native.Nat.{ℕ}
 use lib.IntN.{ℤ, negsuc}
 use Rattle.ground.specs.Answers.{outcomeNumber, Unless, Else0}
+use Rattle.ground.specs.declared.refusals.Outcome.{Outcome}
+use Rattle.ground.specs.declared.refusals.Outcome.the-variants.{Done, Refused}
 use Rattle.ground.specs.declared.told.Told.{Told}
 use Rattle.layout.specs.declared.Written.{Written}
 use Rattle.layout.specs.declared.shapes.Kind.the-variants as shape
+use Rattle.layout.specs.declared.shapes.Shape.{Shape}
 use Rattle.layout.specs.declared.shapes.ShapeRead.{ShapeRead}
 use Rattle.layout.specs.declared.velocities.VelocityKind.{VelocityKind}
 use Rattle.layout.specs.declared.velocities.VelocityKind.the-variants as velocity
@@ -28,7 +31,7 @@ use Rattle.requests.specs.declared.Request.{Request}
 use Rattle.requests.specs.Choice.{Chooses}
 use Rattle.requests.specs.Choice as receiver
 use Rattle.cells.specs.Answers.{answerOf, PutsCells, OfArray}
-use Rattle.code_cells.specs.Shapes.{shapeCells, rowsIn, valueIn, recordIn}
+use Rattle.code_cells.specs.Shapes.{shapeCells, Ended, rowsIn, valueIn, recordIn}
 use Rattle.code_cells.specs.Velocities.{velocityCells, velocityRowsIn, velocityValueIn, velocityRecordIn}
 use Rattle.quantity_cells.specs.Shapes.{quantityCells, quantitiesIn, Arrives}
 use Rattle.quantity_cells.specs.Velocities.{velocityQuantityCells, velocityQuantitiesIn, VelocityArrives}
@@ -144,3 +147,8 @@ pub record ReportsOne (field : ℕ) (code : List ℕ) (before after : List ℤ) 
 -- 2, of a velocity's kind
 abbrev pub KindAnswer : VelocityKind → ℕ → Type 0
 KindAnswer k = Unless (Listed (velocityRows k)) 2 Else0
+
+-- a record that is put has no points after its last
+abbrev pub Puttable : Outcome → Shape → Type 0
+Puttable Done x = Ended (x .latitudes) (x .longitudes) (x .count)
+Puttable (Refused why) x = Unit {0}

@@ -12,7 +12,7 @@ ghost use lib.ListN.{length};
 ghost use Rattle.cells.specs.Answers.{PutsCells};
 ghost use Rattle.code_cells.specs.Shapes.{shapeCells};
 ghost use Rattle.quantity_cells.specs.Shapes.{quantityCells};
-ghost use Rattle.desk.specs.Promises.{ReadsShapeInto, WritesShapeFrom, ReportsShapeFrom, ReportsShapeIn, CodesShapeFrom, CodesShapeIn};
+ghost use Rattle.desk.specs.Promises.{ReadsShapeInto, WritesShapeFrom, ReportsShapeFrom, ReportsShapeIn, CodesShapeFrom, CodesShapeIn, Puttable};
 
 const CODES: usize = 61;
 
@@ -103,6 +103,7 @@ fn coded_in(given: &[i64]) -> ShapeCoded
 }
 
 fn put_codes(codes: &mut [u32], outcome: Outcome, shape: Shape) -> Whole
+    requires { ⌜ Puttable outcome shape ⌝ }
     ensures { λ r. ⌜ PutsCells outcome (shapeCells shape) (now (codes .entry)) (now (codes .exit)) (r .0) ⌝ }
 {
     let room = codes.len();

@@ -11,10 +11,10 @@ use Rattle.code_cells.proofs.shapes.put_points.Statement.{statement}
 use Rattle.code_cells.proofs.shapes.put_points.Tie as tie
 
 abbrev Inv-loop : tie.InvT-loop
-Inv-loop out₀ latitudes longitudes i₀ out i = (i ≤ 15) × (out ≡ sets out₀ 16 (pointCells latitudes longitudes i)) × (length out ≡ length out₀)
+Inv-loop out₀ n latitudes longitudes end i₀ out i = (i ≤ n) × (out ≡ sets out₀ 16 (pointCells latitudes longitudes i)) × (length out ≡ length out₀)
 
 abbrev μ-loop : tie.MeasureT-loop
-μ-loop out₀ latitudes longitudes i₀ out i = 15 - i
+μ-loop out₀ n latitudes longitudes end i₀ out i = n - i
 
 loop-holds : tie.Need-loop-holds Inv-loop μ-loop
 loop-holds c = (search needs, refl, refl)
@@ -85,7 +85,7 @@ same-length c = search needs
 returns : tie.Need-returns Inv-loop μ-loop
 returns c =
     let a = c .before .before .before .args in
-    let e : c .before .loop .i ≡ 15 = omega arith in
+    let e : c .before .loop .i ≡ a .n = omega arith in
     subst (λ (k : ℕ). c .before .loop .out ≡ sets (a .out .now) 16 (pointCells (a .t2) (a .t3) k)) e (c .before .loop .inv .1)
 
 pub put-points-spec : {M : Type 1} → statement M

@@ -4,6 +4,7 @@ use mir.Facts.{toZ-ofZ}
 use mathlib.Core.Path.{refl}
 use native.Mathlib.Omega.{arith}
 use Rattle.cells.specs.Answers.{too-short, long-enough}
+use Rattle.desk.proofs.EndLaws.{coded-puttable}
 use borrow.Author.Needs.{needs}
 use Rattle.desk.proofs.shape_calls.gad_code_shape.Statement.{statement}
 use Rattle.desk.proofs.shape_calls.gad_code_shape.Tie as tie
@@ -18,7 +19,7 @@ coded-in-requires : tie.Need-coded-in-requires
 coded-in-requires c κs = search needs
 
 put-codes-requires : tie.Need-put-codes-requires
-put-codes-requires c κs = search needs
+put-codes-requires c κs = coded-puttable _ _ (c .before .coded-in .ensures)
 
 same-length : tie.Need-same-length
 same-length c = search needs

@@ -2,6 +2,7 @@
 use mathlib.Core.Path.{refl, sym, _∙_}
 use Rattle.ground.specs.declared.refusals.Outcome.the-variants.{Done, Refused}
 use Rattle.cells.proofs.PutLaws.{puts-by, had-room}
+use Rattle.desk.proofs.EndLaws.{put-ended}
 use borrow.Author.Needs.{needs}
 use Rattle.desk.proofs.shape_calls.put_codes.Statement.{statement}
 use Rattle.desk.proofs.shape_calls.put_codes.Tie as tie
@@ -13,7 +14,10 @@ enum-told : tie.Need-enum-told
 enum-told c = search needs
 
 put-shape-requires : tie.Need-put-shape-requires
-put-shape-requires c κs = had-room (c .before .before .before .before .before .args .outcome) 61 _ (sym (c .before .enum-told .given .1) ∙ c .before .before .before .given-room .ensures)
+put-shape-requires c κs =
+    let a = c .before .before .before .before .before .args in
+    let done = sym (c .before .enum-told .given .1) ∙ c .before .before .before .given-room .ensures in
+    (had-room (a .outcome) 61 _ done, put-ended (a .outcome) (a .shape) 61 _ done (c .before .before .before .before .before .pre))
 
 answer-requires : tie.Need-answer-requires
 answer-requires c κs = search needs
