@@ -17,6 +17,9 @@ ghost use Rattle.numerals.specs.Numerals.{numeralOf};
 ghost use Rattle.numerals.specs.Widths.{AsSize, Means};
 ghost use Rattle.lines.specs.Texts.{ReportsAt, Reports, byteField, wordField, signedField};
 
+// Document 01's number for what is no code of the field.
+const NO_CODE: u64 = 7;
+
 // The quantity for the name at that place.
 pub fn reported(place: usize, texts: &[u8]) -> Printed
     ensures { λ r. ⌜ ReportsAt place (fieldsOf (now (texts .entry))) r ⌝ }
@@ -45,7 +48,7 @@ fn byte(field: Byte, text: &[u8]) -> Printed
 {
     match numerals::size_of(numerals::number_in(text)) {
         Size::Code(n) => printing::of_told(reporting::reported_byte(field, capped(n))),
-        Size::Below => Printed::Refused(7),
+        Size::Below => Printed::Refused(NO_CODE),
         Size::Nothing => Printed::Unreadable,
     }
 }
@@ -55,7 +58,7 @@ fn word(field: Word, text: &[u8]) -> Printed
 {
     match numerals::size_of(numerals::number_in(text)) {
         Size::Code(n) => printing::of_told(reporting::reported_word(field, capped(n))),
-        Size::Below => Printed::Refused(7),
+        Size::Below => Printed::Refused(NO_CODE),
         Size::Nothing => Printed::Unreadable,
     }
 }
@@ -67,7 +70,7 @@ fn longitude(text: &[u8]) -> Printed
     match n {
         Numeral::Number(_) => {
             let Signed32::Number(x) = numerals::signed_32(n) else {
-                return Printed::Refused(7);
+                return Printed::Refused(NO_CODE);
             };
             printing::of_told(reporting::reported_longitude(LongitudeCode(x)))
         }
@@ -100,12 +103,12 @@ fn with_sign(field: Signed, sign: Size, size: Size) -> Printed
         Size::Nothing => Printed::Unreadable,
         Size::Below => match size {
             Size::Nothing => Printed::Unreadable,
-            Size::Below => Printed::Refused(7),
-            Size::Code(_) => Printed::Refused(7),
+            Size::Below => Printed::Refused(NO_CODE),
+            Size::Code(_) => Printed::Refused(NO_CODE),
         },
         Size::Code(s) => match size {
             Size::Nothing => Printed::Unreadable,
-            Size::Below => Printed::Refused(7),
+            Size::Below => Printed::Refused(NO_CODE),
             Size::Code(n) => with_bit(field, s, n),
         },
     }
@@ -116,7 +119,7 @@ fn with_bit(field: Signed, sign: u64, n: u64) -> Printed
     ensures { λ r. ⌜ ((first rest : List ℕ) → Means (numeralOf first) (pos sign) → Means (numeralOf rest) (pos n) → Reports (signedField field) (first ∷ fieldsOf rest) r) ⌝ }
 {
     if 1 < sign {
-        return Printed::Refused(7);
+        return Printed::Refused(NO_CODE);
     }
     printing::of_told(reporting::reported_signed(field, sign == 1, capped(n)))
 }
