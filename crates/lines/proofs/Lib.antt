@@ -1,5 +1,3 @@
 pub mod NameLaws
-pub mod CodeLaws
-pub mod ReportLaws
 pub mod LineLaws
 pub mod OneAnswer

@@ -1,21 +1,20 @@
 -- A line's answer from its words and from what the texts behind them make of the field. Assumes nothing.
 use mathlib.Core.Path.{_≡_, refl, sym, ap, _∙_, subst}
 use mathlib.Core.List.{List, [], _∷_}
-use Prim.Native.Nat.{ℕ, _+_, _-_, _<_}
+use Prim.Native.Nat.{ℕ, _<_}
 use native.Mathlib.Omega.{arith}
 use lib.IntN.{ℤ}
-use lib.ListN.{length, take, drop, length-drop}
-use lib.Seq.{take-all}
+use lib.ListN.{length}
 use Rattle.fields.specs.Fields.{Field, latitude, longitude, uncertainty, altitudeUncertainty, altitude, innerRadius, offset, included, orientation, bearing, horizontalSpeed, verticalSpeed, uncertaintySpeed, confidence, CodeOf, QuantityOf}
-use Rattle.numerals.specs.Marks.{FirstMark}
 use Rattle.numerals.specs.Fields.{fieldsOf}
-use Rattle.numerals.proofs.FieldLaws.{marked}
 use Rattle.printing.specs.declared.printed.Printed.{Printed}
 use Rattle.printing.specs.declared.printed.Printed.the-variants.{Unreadable}
 use Rattle.lines.specs.Names.{codeVerb, reportVerb, nameOf, Placed}
-use Rattle.lines.specs.Lines.{Writes, WriteNumbers, none, more, numbersOf, countOf, SaysQuantity, SaysNumbers, Answers, unreadable}
+use Rattle.field_texts.specs.Written.{Writes, WriteNumbers, none, more, numbersOf, countOf}
+use Rattle.field_texts.specs.Texts as texts
+use Rattle.field_texts.proofs.OneText.{counted}
+use Rattle.lines.specs.Lines.{SaysQuantity, SaysNumbers, Answers, unreadable}
 use Rattle.lines.specs.Lines as lines
-use Rattle.lines.specs.Texts as texts
 use Rattle.lines.proofs.NameLaws.{verbs-apart, name-one}
 
 some-number : (f : Field) → 0 < countOf f
@@ -33,22 +32,6 @@ some-number horizontalSpeed = omega arith
 some-number verticalSpeed = omega arith
 some-number uncertaintySpeed = omega arith
 some-number confidence = omega arith
-
-pub counted : (f : Field) (c : CodeOf f) → length (numbersOf f c) ≡ countOf f
-counted latitude c = refl
-counted longitude c = refl
-counted uncertainty c = refl
-counted altitudeUncertainty c = refl
-counted altitude c = refl
-counted innerRadius c = refl
-counted offset c = refl
-counted included c = refl
-counted orientation c = refl
-counted bearing c = refl
-counted horizontalSpeed c = refl
-counted verticalSpeed c = refl
-counted uncertaintySpeed c = refl
-counted confidence c = refl
 
 -- as many texts as numbers
 as-many : {ts : List (List ℕ)} {zs : List ℤ} → WriteNumbers ts zs → length ts ≡ length zs
@@ -69,11 +52,6 @@ too-few line h = unreadable (few-quantity h) (few-numbers h) refl
 
 pub alone-after : (line : List ℕ) {word t : List ℕ} {rest : List (List ℕ)} → fieldsOf line ≡ word ∷ rest → rest ≡ t ∷ [] → Answers line Unreadable
 alone-after line e f = too-few line (omega (arith, ap length e, ap length f))
-
--- ---- the first field of some, and those after it
-
-pub first-of : {s : List ℕ} {r : ℕ} → FirstMark 32 s 0 r → r < length s → fieldsOf s ≡ take (r - 0) (drop 0 s) ∷ fieldsOf (take (length s - (r + 1)) (drop (r + 1) s))
-first-of {s} {r} m h = rw (take-all (length s - (r + 1)) (drop (r + 1) s) (rw length-drop (omega arith))) (marked m h)
 
 -- ---- a line with a verb and a name
 

@@ -1,18 +1,16 @@
 -- A name is one field's, and told by its length but for a few. Assumes nothing.
-use mathlib.Core.Path.{_≡_, refl, sym, ap, subst, _∙_}
+use mathlib.Core.Path.{_≡_, refl, sym, ap, _∙_}
 use mathlib.Core.Bool.{Bool, true, false, cond}
 use mathlib.Core.List.{List, [], _∷_}
 use Prim.Native.Nat.{ℕ, zero, suc, _+_, _*_, _<_}
 use native.Mathlib.Omega.{arith}
 use lib.ListN.{length, getD}
-use lib.Dec.{T, eqb}
+use lib.Dec.{eqb}
 use borrow.Author.Tests.{eq-eqb}
 use Rattle.fields.specs.Fields.{Field, latitude, longitude, uncertainty, altitudeUncertainty, altitude, innerRadius, offset, included, orientation, bearing, horizontalSpeed, verticalSpeed, uncertaintySpeed, confidence}
-use Rattle.lines.specs.Names.{codeVerb, reportVerb, nameOf, IsVerb, placeOf, Placed, PlacedIf, is, other}
-
--- what a test that is false refutes
-pub untrue : {P : Type 0} {r : Bool} → r ≡ false → (P → r ≡ true) → P → ⊥
-untrue e f p = let q : true ≡ false = sym (f p) ∙ e in subst T q tt
+use Rattle.field_texts.specs.Written.{placeOf}
+use Rattle.field_texts.proofs.OneText.{all, at-place, place-one}
+use Rattle.lines.specs.Names.{codeVerb, reportVerb, nameOf, IsVerb, Placed, PlacedIf, is, other}
 
 -- ---- the verbs
 
@@ -29,29 +27,7 @@ is-report e = record { code = λ z. absurd (omega arith); coded = λ w. absurd (
 pub is-neither : {word : List ℕ} → (word ≡ codeVerb → ⊥) → (word ≡ reportVerb → ⊥) → IsVerb word 2
 is-neither a b = record { code = λ z. absurd (omega arith); coded = λ w. absurd (a w); report = λ z. absurd (omega arith); reported = λ w. absurd (b w) }
 
--- ---- one field has a place, or a name
-
-abbrev pub all : List Field
-all = latitude ∷ longitude ∷ uncertainty ∷ altitudeUncertainty ∷ altitude ∷ innerRadius ∷ offset ∷ included ∷ orientation ∷ bearing ∷ horizontalSpeed ∷ verticalSpeed ∷ uncertaintySpeed ∷ confidence ∷ []
-
-at-place : (f : Field) → (getD all (placeOf f) confidence ≡ f) × (placeOf f < 14)
-at-place latitude = (refl, omega arith)
-at-place longitude = (refl, omega arith)
-at-place uncertainty = (refl, omega arith)
-at-place altitudeUncertainty = (refl, omega arith)
-at-place altitude = (refl, omega arith)
-at-place innerRadius = (refl, omega arith)
-at-place offset = (refl, omega arith)
-at-place included = (refl, omega arith)
-at-place orientation = (refl, omega arith)
-at-place bearing = (refl, omega arith)
-at-place horizontalSpeed = (refl, omega arith)
-at-place verticalSpeed = (refl, omega arith)
-at-place uncertaintySpeed = (refl, omega arith)
-at-place confidence = (refl, omega arith)
-
-pub place-one : (f g : Field) → placeOf f ≡ placeOf g → f ≡ g
-place-one f g e = sym (at-place f .0) ∙ ap (λ (n : ℕ). getD all n confidence) e ∙ at-place g .0
+-- ---- one field has a name
 
 -- length and first letter tell it
 unfoldable keyOf : List ℕ → ℕ

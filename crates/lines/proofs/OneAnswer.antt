@@ -1,100 +1,22 @@
--- One answer: a line says one quantity or one list of numbers, not both, and numbers are one code or none. Assumes nothing.
-use mathlib.Core.Path.{_≡_, refl, sym, ap, _∙_, subst}
-use mathlib.Core.Bool.{Bool, true, false, cond}
-use mathlib.Core.List.{List, [], _∷_}
+-- One answer: a line says one quantity or one list of numbers, not both. Assumes nothing.
+use mathlib.Core.Path.{_≡_, sym, ap, _∙_, subst}
+use mathlib.Core.List.{List}
 use Prim.Native.Nat.{ℕ}
-use native.Mathlib.Omega.{arith}
-use lib.IntN.{ℤ, pos}
-use lib.Signed.{mag}
-use lib.ListN.{length}
-use Rattle.ground.specs.declared.quantities.UncertaintySpeed.{UncertaintySpeed}
-use Rattle.ground.specs.declared.quantities.UncertaintySpeed.the-variants as uncertain
-use Rattle.ground.specs.declared.quantities.Confidence.{Confidence}
-use Rattle.ground.specs.declared.quantities.Confidence.the-variants as confident
+use lib.IntN.{ℤ}
 use Rattle.ground.specs.declared.told.Told.{Told}
-use Rattle.fields.specs.Fields.{Field, latitude, longitude, uncertainty, altitudeUncertainty, altitude, innerRadius, offset, included, orientation, bearing, horizontalSpeed, verticalSpeed, uncertaintySpeed, confidence, CodeOf, QuantityOf}
+use Rattle.fields.specs.Fields.{Field, CodeOf, QuantityOf}
 use Rattle.coding.specs.Tells as coding
 use Rattle.coding.proofs.OneTold as coded
 use Rattle.reporting.specs.Tells as reporting
 use Rattle.reporting.proofs.OneTold as reported
-use Rattle.numerals.proofs.WidthLaws.{means-one}
-use Rattle.numerals.proofs.SaysLaws.{signed-one, unsigned-one, unsigned-dash}
 use Rattle.printing.specs.Printing.{printedOf}
 use Rattle.printing.specs.declared.printed.Printed.{Printed}
+use Rattle.field_texts.specs.Written.{Writes, WriteNumbers, numbersOf}
+use Rattle.field_texts.proofs.OneText.{quantity-one, numbers-one, code-one}
 use Rattle.lines.specs.Names.{nameOf, codeVerb, reportVerb}
-use Rattle.lines.specs.Lines.{Writes, WritesUncertaintySpeed, WritesConfidence, WriteNumbers, none, more, signedNumbers, numbersOf, countOf, SaysQuantity, SaysNumbers, Answers, unreadable, no-code}
+use Rattle.lines.specs.Lines.{SaysQuantity, SaysNumbers, Answers, unreadable, no-code}
 use Rattle.lines.specs.Lines as lines
 use Rattle.lines.proofs.NameLaws.{verbs-apart, name-one}
-
--- ---- a text writes one quantity
-
-speed-one : (t : List ℕ) (x y : UncertaintySpeed) → WritesUncertaintySpeed t x → WritesUncertaintySpeed t y → x ≡ y
-speed-one t (uncertain.Speed x) (uncertain.Speed y) s u = λ i. uncertain.Speed (record { 0 = unsigned-one s u i })
-speed-one t (uncertain.Speed x) uncertain.Missing s u = absurd (unsigned-dash s u)
-speed-one t uncertain.Missing (uncertain.Speed y) s u = absurd (unsigned-dash u s)
-speed-one t uncertain.Missing uncertain.Missing s u = refl
-
-confidence-one : (t : List ℕ) (x y : Confidence) → WritesConfidence t x → WritesConfidence t y → x ≡ y
-confidence-one t (confident.PerCent x) (confident.PerCent y) s u = ap confident.PerCent (unsigned-one s u)
-confidence-one t (confident.PerCent x) confident.Missing s u = absurd (unsigned-dash s u)
-confidence-one t confident.Missing (confident.PerCent y) s u = absurd (unsigned-dash u s)
-confidence-one t confident.Missing confident.Missing s u = refl
-
-quantity-one : (f : Field) (t : List ℕ) (x y : QuantityOf f) → Writes f t x → Writes f t y → x ≡ y
-quantity-one latitude t x y s u = λ i. record { 0 = signed-one s u i }
-quantity-one longitude t x y s u = λ i. record { 0 = signed-one s u i }
-quantity-one uncertainty t x y s u = λ i. record { 0 = unsigned-one s u i }
-quantity-one altitudeUncertainty t x y s u = λ i. record { 0 = unsigned-one s u i }
-quantity-one altitude t x y s u = λ i. record { 0 = signed-one s u i }
-quantity-one innerRadius t x y s u = λ i. record { 0 = unsigned-one s u i }
-quantity-one offset t x y s u = λ i. record { 0 = unsigned-one s u i }
-quantity-one included t x y s u = λ i. record { 0 = unsigned-one s u i }
-quantity-one orientation t x y s u = λ i. record { 0 = unsigned-one s u i }
-quantity-one bearing t x y s u = λ i. record { 0 = unsigned-one s u i }
-quantity-one horizontalSpeed t x y s u = λ i. record { 0 = unsigned-one s u i }
-quantity-one verticalSpeed t x y s u = λ i. record { 0 = signed-one s u i }
-quantity-one uncertaintySpeed t x y s u = speed-one t x y s u
-quantity-one confidence t x y s u = confidence-one t x y s u
-
--- ---- texts write one list of numbers, and that is one code's
-
-numbers-one : {ts : List (List ℕ)} {ys zs : List ℤ} → WriteNumbers ts ys → WriteNumbers ts zs → ys ≡ zs
-numbers-one none none = refl
-numbers-one (more m w) (more n u) = λ i. means-one m n i ∷ numbers-one w u i
-
-bit-one : (s t : Bool) → _≡_ {A = ℕ} (cond s 1 0) (cond t 1 0) → s ≡ t
-bit-one true true e = refl
-bit-one true false e = absurd (omega arith)
-bit-one false true e = absurd (omega arith)
-bit-one false false e = refl
-
-sign-one : (s t : Bool) {m n : ℕ} → signedNumbers s m ≡ signedNumbers t n → s ≡ t
-sign-one s t e = let q : pos (cond s 1 0) ≡ pos (cond t 1 0) = cc in bit-one s t (ap mag q)
-
-size-one : (s t : Bool) {m n : ℕ} → signedNumbers s m ≡ signedNumbers t n → m ≡ n
-size-one s t e = cc
-
-number-one : {m n : ℕ} → _≡_ {A = List ℤ} (pos m ∷ []) (pos n ∷ []) → m ≡ n
-number-one e = cc
-
-longitude-one : {y z : ℤ} → _≡_ {A = List ℤ} (y ∷ []) (z ∷ []) → y ≡ z
-longitude-one e = cc
-
-code-one : (f : Field) (c d : CodeOf f) → numbersOf f c ≡ numbersOf f d → c ≡ d
-code-one latitude c d e = λ i. record { 0 = sign-one (c .0) (d .0) e i; 1 = size-one (c .0) (d .0) e i }
-code-one longitude c d e = λ i. record { 0 = longitude-one e i }
-code-one uncertainty c d e = λ i. record { 0 = number-one e i }
-code-one altitudeUncertainty c d e = λ i. record { 0 = number-one e i }
-code-one altitude c d e = λ i. record { 0 = sign-one (c .0) (d .0) e i; 1 = size-one (c .0) (d .0) e i }
-code-one innerRadius c d e = λ i. record { 0 = number-one e i }
-code-one offset c d e = λ i. record { 0 = number-one e i }
-code-one included c d e = λ i. record { 0 = number-one e i }
-code-one orientation c d e = λ i. record { 0 = number-one e i }
-code-one bearing c d e = λ i. record { 0 = number-one e i }
-code-one horizontalSpeed c d e = λ i. record { 0 = number-one e i }
-code-one verticalSpeed c d e = λ i. record { 0 = sign-one (c .0) (d .0) e i; 1 = size-one (c .0) (d .0) e i }
-code-one uncertaintySpeed c d e = λ i. record { 0 = number-one e i }
-code-one confidence c d e = λ i. record { 0 = number-one e i }
 
 -- ---- a line says one thing
 

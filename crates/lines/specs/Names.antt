@@ -2,6 +2,7 @@
 use mathlib.Core.Path.{_≡_}
 use mathlib.Core.List.{List, [], _∷_}
 use Prim.Native.Nat.{ℕ}
+use Rattle.field_texts.specs.Written.{placeOf}
 use Rattle.fields.specs.Fields.{Field, latitude, longitude, uncertainty, altitudeUncertainty, altitude, innerRadius, offset, included, orientation, bearing, horizontalSpeed, verticalSpeed, uncertaintySpeed, confidence}
 
 -- code
@@ -37,22 +38,6 @@ pub record IsVerb (word : List ℕ) (verb : ℕ) : Type 0 where
   pub coded : word ≡ codeVerb → verb ≡ 0
   pub report : verb ≡ 1 → word ≡ reportVerb
   pub reported : word ≡ reportVerb → verb ≡ 1
-
-abbrev pub placeOf : Field → ℕ
-placeOf latitude = 0
-placeOf longitude = 1
-placeOf uncertainty = 2
-placeOf altitudeUncertainty = 3
-placeOf altitude = 4
-placeOf innerRadius = 5
-placeOf offset = 6
-placeOf included = 7
-placeOf orientation = 8
-placeOf bearing = 9
-placeOf horizontalSpeed = 10
-placeOf verticalSpeed = 11
-placeOf uncertaintySpeed = 12
-placeOf confidence = 13
 
 -- a field's place for its name, and no field's for no name
 pub record Placed (word : List ℕ) (place : ℕ) : Type 0 where

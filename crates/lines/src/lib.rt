@@ -1,7 +1,5 @@
 // A line of the coder's input, `code NAME QUANTITY` or `report NAME CODE..` with one space between two fields, and its answer.
-mod code_lines;
 mod names;
-mod report_lines;
 
 use printing::Printed;
 ghost use mathlib.Core.Path.{_≡_};
@@ -35,8 +33,8 @@ fn named(verb: usize, fields: &[u8]) -> Printed
     let place = names::place_of(&fields[0..end]);
     let rest = &fields[from..];
     match verb {
-        0 => code_lines::coded(place, rest),
-        1 => report_lines::reported(place, rest),
+        0 => field_texts::coded(place, rest),
+        1 => field_texts::reported(place, rest),
         _ => Printed::Unreadable,
     }
 }

@@ -3,7 +3,8 @@ use mathlib.Core.Path.{ap}
 use native.Mathlib.Omega.{arith}
 use lib.ListN.{length}
 use Rattle.numerals.proofs.FieldLaws.{unmarked}
-use Rattle.lines.proofs.LineLaws.{too-few, first-of}
+use Rattle.field_texts.proofs.ReportLaws.{first-of}
+use Rattle.lines.proofs.LineLaws.{too-few}
 use borrow.Author.Needs.{needs}
 use Rattle.lines.proofs.answer.Statement.{statement}
 use Rattle.lines.proofs.answer.Tie as tie

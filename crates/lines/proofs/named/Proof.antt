@@ -4,7 +4,8 @@ use mathlib.Core.List.{List, _∷_}
 use Prim.Native.Nat.{ℕ}
 use native.Mathlib.Omega.{arith}
 use Rattle.numerals.proofs.FieldLaws.{unmarked}
-use Rattle.lines.proofs.LineLaws.{alone-after, first-of, code-line, report-line, no-verb}
+use Rattle.field_texts.proofs.ReportLaws.{first-of}
+use Rattle.lines.proofs.LineLaws.{alone-after, code-line, report-line, no-verb}
 use borrow.Author.Needs.{needs}
 use Rattle.lines.proofs.named.Statement.{statement}
 use Rattle.lines.proofs.named.Tie as tie

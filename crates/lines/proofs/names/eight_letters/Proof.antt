@@ -2,7 +2,8 @@
 use mathlib.Core.Path.{refl}
 use Rattle.fields.specs.Fields.{latitude, altitude, included}
 use Rattle.lines.specs.Names.{nameOf}
-use Rattle.lines.proofs.NameLaws.{untrue, named-so, ofLength, if-third}
+use Rattle.field_texts.proofs.CodeLaws.{untrue}
+use Rattle.lines.proofs.NameLaws.{named-so, ofLength, if-third}
 use borrow.Author.Needs.{needs}
 use Rattle.lines.proofs.names.eight_letters.Statement.{statement}
 use Rattle.lines.proofs.names.eight_letters.Tie as tie

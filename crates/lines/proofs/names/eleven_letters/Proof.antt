@@ -2,7 +2,8 @@
 use mathlib.Core.Path.{refl}
 use Rattle.fields.specs.Fields.{uncertainty, orientation}
 use Rattle.lines.specs.Names.{nameOf}
-use Rattle.lines.proofs.NameLaws.{untrue, named-so, ofLength, if-second}
+use Rattle.field_texts.proofs.CodeLaws.{untrue}
+use Rattle.lines.proofs.NameLaws.{named-so, ofLength, if-second}
 use borrow.Author.Needs.{needs}
 use Rattle.lines.proofs.names.eleven_letters.Statement.{statement}
 use Rattle.lines.proofs.names.eleven_letters.Tie as tie

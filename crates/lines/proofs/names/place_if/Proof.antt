@@ -1,7 +1,7 @@
 -- `names::place_if` meets its contract: the word is the name, or it is not. Assumes nothing.
 use mathlib.Core.Path.{refl}
 use Rattle.lines.specs.Names.{is, other}
-use Rattle.lines.proofs.NameLaws.{untrue}
+use Rattle.field_texts.proofs.CodeLaws.{untrue}
 use borrow.Author.Needs.{needs}
 use Rattle.lines.proofs.names.place_if.Statement.{statement}
 use Rattle.lines.proofs.names.place_if.Tie as tie

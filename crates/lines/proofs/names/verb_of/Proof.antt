@@ -1,6 +1,7 @@
 -- `names::verb_of` meets its contract: the word is one verb, the other, or neither. Assumes nothing.
 use Rattle.lines.specs.Names.{codeVerb, reportVerb}
-use Rattle.lines.proofs.NameLaws.{untrue, is-code, is-report, is-neither}
+use Rattle.field_texts.proofs.CodeLaws.{untrue}
+use Rattle.lines.proofs.NameLaws.{is-code, is-report, is-neither}
 use borrow.Author.Needs.{needs}
 use Rattle.lines.proofs.names.verb_of.Statement.{statement}
 use Rattle.lines.proofs.names.verb_of.Tie as tie

@@ -1,0 +1,26 @@
+-- `quantities::with_bit` meets its contract: the sign is above 1, or it is a bit. Assumes nothing.
+use native.Mathlib.Omega.{arith}
+use Rattle.field_texts.proofs.ReportLaws.{no-sign, signed-reported}
+use borrow.Author.Needs.{needs}
+use Rattle.field_texts.proofs.quantities.with_bit.Statement.{statement}
+use Rattle.field_texts.proofs.quantities.with_bit.Tie as tie
+
+returns : tie.Need-returns
+returns c = λ first rest m i. no-sign (c .before .args .field) first rest (c .if1 .taken) m i
+
+capped-requires : tie.Need-capped-requires
+capped-requires c κs = search needs
+
+reported-signed-requires : tie.Need-reported-signed-requires
+reported-signed-requires c κs = search needs
+
+of-told-requires : tie.Need-of-told-requires
+of-told-requires c κs = search needs
+
+returns-2 : tie.Need-returns-2
+returns-2 c = λ first rest m i. signed-reported first rest (omega arith) m i (c .before .reported-signed .result) (c .of-told .ensures) (c .before .before .before .before .args .field) (rw (c .before .before .capped .ensures) at (c .before .reported-signed .ensures))
+
+pub with-bit-spec : {M : Type 1} → statement M
+with-bit-spec =
+    tie.close
+    (tie.spec returns capped-requires reported-signed-requires of-told-requires returns-2)
