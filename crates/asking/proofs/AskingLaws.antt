@@ -12,7 +12,7 @@ use Rattle.ground.specs.declared.quantities.Confidence.{Confidence}
 use Rattle.ground.specs.declared.quantities.Confidence.the-variants as confident
 use Rattle.numerals.specs.Numerals.{numeralOf}
 use Rattle.numerals.specs.Widths.{Means, FitsSigned}
-use Rattle.numerals.specs.Fields.{fieldAt, IsAbsent, SaysSigned, SaysUnsigned}
+use Rattle.numerals.specs.Fields.{fieldAt, IsAbsent, SaysUnsigned}
 use Rattle.numerals.proofs.WidthLaws.{means-one}
 use Rattle.numerals.proofs.SaysLaws.{dash-is-none, signed-one, unsigned-one, unsigned-dash}
 use Rattle.requests.specs.declared.Request.{Request}

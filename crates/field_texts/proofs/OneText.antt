@@ -11,7 +11,6 @@ use Rattle.ground.specs.declared.quantities.UncertaintySpeed.{UncertaintySpeed}
 use Rattle.ground.specs.declared.quantities.UncertaintySpeed.the-variants as uncertain
 use Rattle.ground.specs.declared.quantities.Confidence.{Confidence}
 use Rattle.ground.specs.declared.quantities.Confidence.the-variants as confident
-use Rattle.ground.specs.declared.told.Told.{Told}
 use Rattle.fields.specs.Fields.{Field, latitude, longitude, uncertainty, altitudeUncertainty, altitude, innerRadius, offset, included, orientation, bearing, horizontalSpeed, verticalSpeed, uncertaintySpeed, confidence, CodeOf, QuantityOf}
 use Rattle.coding.specs.Tells as coding
 use Rattle.coding.proofs.OneTold as coded

@@ -43,7 +43,7 @@ Writes confidence text x = WritesConfidence text x
 
 -- ---- the numbers of a code
 
--- each text writes the number in its place
+-- each text writes the number in its place; one that 64 bits can't hold counts as their largest, which no field holds either
 pub data WriteNumbers : List (List ℕ) → List ℤ → Type 0 where
   none : WriteNumbers [] []
   more : {text : List ℕ} {texts : List (List ℕ)} {z : ℤ} {zs : List ℤ} → Means (numeralOf text) z → WriteNumbers texts zs → WriteNumbers (text ∷ texts) (z ∷ zs)

@@ -13,7 +13,7 @@ ghost use Rattle.fields.specs.Fields.{altitude, verticalSpeed, uncertaintySpeed
 ghost use Rattle.numerals.specs.Fields.{fieldsOf};
 ghost use Rattle.field_texts.specs.Texts.{CodesAt, Codes, CodesUnsigned, coordinateField};
 
-// The code for the name at that place. What is no number has a space in it, or another octet that no number has.
+// The code for the name at that place. More than one text is no number: there is a space in it.
 pub fn coded(place: usize, text: &[u8]) -> Printed
     ensures { λ r. ⌜ CodesAt place (fieldsOf (now (text .entry))) r ⌝ }
 {

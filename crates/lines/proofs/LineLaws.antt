@@ -5,12 +5,12 @@ use Prim.Native.Nat.{ℕ, _<_}
 use native.Mathlib.Omega.{arith}
 use lib.IntN.{ℤ}
 use lib.ListN.{length}
-use Rattle.fields.specs.Fields.{Field, latitude, longitude, uncertainty, altitudeUncertainty, altitude, innerRadius, offset, included, orientation, bearing, horizontalSpeed, verticalSpeed, uncertaintySpeed, confidence, CodeOf, QuantityOf}
+use Rattle.fields.specs.Fields.{Field, latitude, longitude, uncertainty, altitudeUncertainty, altitude, innerRadius, offset, included, orientation, bearing, horizontalSpeed, verticalSpeed, uncertaintySpeed, confidence, QuantityOf}
 use Rattle.numerals.specs.Fields.{fieldsOf}
 use Rattle.printing.specs.declared.printed.Printed.{Printed}
 use Rattle.printing.specs.declared.printed.Printed.the-variants.{Unreadable}
 use Rattle.lines.specs.Names.{codeVerb, reportVerb, nameOf, Placed}
-use Rattle.field_texts.specs.Written.{Writes, WriteNumbers, none, more, numbersOf, countOf}
+use Rattle.field_texts.specs.Written.{Writes, WriteNumbers, none, more, countOf}
 use Rattle.field_texts.specs.Texts as texts
 use Rattle.field_texts.proofs.OneText.{counted}
 use Rattle.lines.specs.Lines.{SaysQuantity, SaysNumbers, Answers, unreadable}

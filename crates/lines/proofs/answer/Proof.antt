@@ -43,7 +43,13 @@ named-requires : tie.Need-named-requires
 named-requires c κs = search needs
 
 returns-2 : tie.Need-returns-2
-returns-2 c = c .named .ensures (c .before .before .before .before .before .before .before .args .line .now) _ (first-of (c .before .before .before .before .before .field-end .ensures) (omega (arith, c .before .before .before .before .before .field-end .ensures .inside, c .before .before .before .before .if1 .left))) (c .before .before .verb-of .ensures)
+returns-2 c =
+    let given = c .before .before .before .before .before .before .before .args in
+    let field-end = c .before .before .before .before .before .field-end in
+    let if1 = c .before .before .before .before .if1 in
+    let verb-of = c .before .before .verb-of in
+    let named = c .named in
+    named .ensures (given .line .now) _ (first-of (field-end .ensures) (omega (arith, field-end .ensures .inside, if1 .left))) (verb-of .ensures)
 
 pub answer-spec : {M : Type 1} → statement M
 answer-spec =

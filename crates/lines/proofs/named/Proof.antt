@@ -47,13 +47,26 @@ reported-requires : tie.Need-reported-requires
 reported-requires c κs = search needs
 
 returns-2 : tie.Need-returns-2
-returns-2 c = λ line word e v. code-line (e ∙ ap (λ (ts : List (List ℕ)). word ∷ ts) (first-of (c .before .before .before .before .before .before .field-end .ensures) (omega (arith, c .before .before .before .before .before .before .field-end .ensures .inside, c .before .before .before .before .before .if1 .left)))) (v .code (c .before .match .keys1)) (c .before .before .before .place-of .ensures) (c .coded .ensures)
+returns-2 c =
+    let field-end = c .before .before .before .before .before .before .field-end in
+    let if1 = c .before .before .before .before .before .if1 in
+    let place-of = c .before .before .before .place-of in
+    let coded = c .coded in
+    λ line word e v. code-line (e ∙ ap (λ (ts : List (List ℕ)). word ∷ ts) (first-of (field-end .ensures) (omega (arith, field-end .ensures .inside, if1 .left)))) (v .code (c .before .match .keys1)) (place-of .ensures) (coded .ensures)
 
 returns-3 : tie.Need-returns-3
-returns-3 c = λ line word e v. report-line (e ∙ ap (λ (ts : List (List ℕ)). word ∷ ts) (first-of (c .before .before .before .before .before .before .field-end .ensures) (omega (arith, c .before .before .before .before .before .before .field-end .ensures .inside, c .before .before .before .before .before .if1 .left)))) (v .report (c .before .match .keys2)) (c .before .before .before .place-of .ensures) (c .reported .ensures)
+returns-3 c =
+    let field-end = c .before .before .before .before .before .before .field-end in
+    let if1 = c .before .before .before .before .before .if1 in
+    let place-of = c .before .before .before .place-of in
+    let reported = c .reported in
+    λ line word e v. report-line (e ∙ ap (λ (ts : List (List ℕ)). word ∷ ts) (first-of (field-end .ensures) (omega (arith, field-end .ensures .inside, if1 .left)))) (v .report (c .before .match .keys2)) (place-of .ensures) (reported .ensures)
 
 returns-4 : tie.Need-returns-4
-returns-4 c = λ line word e v. no-verb (e ∙ ap (λ (ts : List (List ℕ)). word ∷ ts) (first-of (c .before .before .before .before .before .field-end .ensures) (omega (arith, c .before .before .before .before .before .field-end .ensures .inside, c .before .before .before .before .if1 .left)))) (λ w. c .match .rest .0 .1 (v .coded w)) (λ w. c .match .rest .1 (v .reported w))
+returns-4 c =
+    let field-end = c .before .before .before .before .before .field-end in
+    let if1 = c .before .before .before .before .if1 in
+    λ line word e v. no-verb (e ∙ ap (λ (ts : List (List ℕ)). word ∷ ts) (first-of (field-end .ensures) (omega (arith, field-end .ensures .inside, if1 .left)))) (λ w. c .match .rest .0 .1 (v .coded w)) (λ w. c .match .rest .1 (v .reported w))
 
 pub named-spec : {M : Type 1} → statement M
 named-spec =

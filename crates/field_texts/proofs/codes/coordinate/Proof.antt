@@ -23,7 +23,12 @@ enum-told : tie.Need-enum-told
 enum-told c = search needs
 
 returns : tie.Need-returns
-returns c = coordinate-uncoded (c .before .before .before .before .before .args .field) (c .before .before .before .before .before .args .text .now) (λ z s. no-coordinate (c .before .before .before .before .before .args .text .now) (subst (λ (n : Numeral). AsSigned64 n (c .before .before .signed-64 .result)) (c .before .before .before .number-in .ensures) (c .before .before .signed-64 .ensures)) (c .enum-told .given .1) s)
+returns c =
+    let given = c .before .before .before .before .before .args in
+    let number-in = c .before .before .before .number-in in
+    let signed-64 = c .before .before .signed-64 in
+    let enum-told = c .enum-told in
+    coordinate-uncoded (given .field) (given .text .now) (λ z s. no-coordinate (given .text .now) (subst (λ (n : Numeral). AsSigned64 n (signed-64 .result)) (number-in .ensures) (signed-64 .ensures)) (enum-told .given .1) s)
 
 coded-coordinate-requires : tie.Need-coded-coordinate-requires
 coded-coordinate-requires c κs = search needs
@@ -32,7 +37,14 @@ of-told-requires : tie.Need-of-told-requires
 of-told-requires c κs = search needs
 
 returns-2 : tie.Need-returns-2
-returns-2 c = coordinate-coded (c .before .before .before .before .before .before .before .before .args .field) (c .before .coded-coordinate .result) (coordinate-says (c .before .before .before .before .before .before .before .before .args .text .now) (subst (λ (n : Numeral). AsSigned64 n (c .before .before .before .before .before .signed-64 .result)) (c .before .before .before .before .before .before .number-in .ensures) (c .before .before .before .before .before .signed-64 .ensures)) (c .before .before .before .x .given .1)) (rw (toZ-ofZ {w = w64} {z = c .before .before .before .x .given .0 .0} (search needs)) at (c .before .coded-coordinate .ensures)) (c .of-told .ensures)
+returns-2 c =
+    let given = c .before .before .before .before .before .before .before .before .args in
+    let number-in = c .before .before .before .before .before .before .number-in in
+    let signed-64 = c .before .before .before .before .before .signed-64 in
+    let read = c .before .before .before .x in
+    let coded-coordinate = c .before .coded-coordinate in
+    let of-told = c .of-told in
+    coordinate-coded (given .field) (coded-coordinate .result) (coordinate-says (given .text .now) (subst (λ (n : Numeral). AsSigned64 n (signed-64 .result)) (number-in .ensures) (signed-64 .ensures)) (read .given .1)) (rw (toZ-ofZ {w = w64} {z = read .given .0 .0} (search needs)) at (coded-coordinate .ensures)) (of-told .ensures)
 
 pub coordinate-spec : {M : Type 1} → statement M
 coordinate-spec =

@@ -18,7 +18,12 @@ enum-told : tie.Need-enum-told
 enum-told c = search needs
 
 returns : tie.Need-returns
-returns c = unsigned-uncoded (c .before .before .before .before .before .args .field) (c .before .before .before .before .before .args .text .now) (unsigned-unread (unsigned-none (c .before .before .before .before .before .args .text .now) (c .before .before .before .number-in .ensures) (c .enum-told .given .1) (c .before .before .unsigned-32 .ensures)))
+returns c =
+    let given = c .before .before .before .before .before .args in
+    let number-in = c .before .before .before .number-in in
+    let unsigned-32 = c .before .before .unsigned-32 in
+    let enum-told = c .enum-told in
+    unsigned-uncoded (given .field) (given .text .now) (unsigned-unread (unsigned-none (given .text .now) (number-in .ensures) (enum-told .given .1) (unsigned-32 .ensures)))
 
 coded-unsigned-requires : tie.Need-coded-unsigned-requires
 coded-unsigned-requires c κs = search needs
@@ -27,7 +32,14 @@ of-told-requires : tie.Need-of-told-requires
 of-told-requires c κs = search needs
 
 returns-2 : tie.Need-returns-2
-returns-2 c = unsigned-coded (c .before .before .before .before .before .before .before .before .args .field) (c .before .coded-unsigned .result) (unsigned-says (c .before .before .before .before .before .before .before .before .args .text .now) (c .before .before .before .before .before .before .number-in .ensures) (c .before .before .before .x .given .1) (c .before .before .before .before .before .unsigned-32 .ensures)) (c .before .coded-unsigned .ensures) (c .of-told .ensures)
+returns-2 c =
+    let given = c .before .before .before .before .before .before .before .before .args in
+    let number-in = c .before .before .before .before .before .before .number-in in
+    let unsigned-32 = c .before .before .before .before .before .unsigned-32 in
+    let read = c .before .before .before .x in
+    let coded-unsigned = c .before .coded-unsigned in
+    let of-told = c .of-told in
+    unsigned-coded (given .field) (coded-unsigned .result) (unsigned-says (given .text .now) (number-in .ensures) (read .given .1) (unsigned-32 .ensures)) (coded-unsigned .ensures) (of-told .ensures)
 
 pub unsigned-spec : {M : Type 1} → statement M
 unsigned-spec =

@@ -30,13 +30,31 @@ enum-told-2 : tie.Need-enum-told-2
 enum-told-2 c = search needs
 
 returns : tie.Need-returns
-returns c = byte-reported (c .before .before .before .before .before .before .before .before .before .args .text .now) (size-code (c .before .before .before .before .before .before .before .before .before .args .text .now) (c .before .before .before .before .before .before .before .number-in .ensures) (c .before .before .before .before .before .before .size-of .ensures) (c .before .before .before .before .n .given .1)) (c .before .reported-byte .result) (c .of-told .ensures) (c .before .before .before .before .before .before .before .before .before .args .field) (rw (c .before .before .capped .ensures) at (c .before .reported-byte .ensures))
+returns c =
+    let given = c .before .before .before .before .before .before .before .before .before .args in
+    let number-in = c .before .before .before .before .before .before .before .number-in in
+    let size-of = c .before .before .before .before .before .before .size-of in
+    let read = c .before .before .before .before .n in
+    let capped = c .before .before .capped in
+    let reported-byte = c .before .reported-byte in
+    let of-told = c .of-told in
+    byte-reported (given .text .now) (size-code (given .text .now) (number-in .ensures) (size-of .ensures) (read .given .1)) (reported-byte .result) (of-told .ensures) (given .field) (rw (capped .ensures) at (reported-byte .ensures))
 
 returns-2 : tie.Need-returns-2
-returns-2 c = below-reported (byte-plain (c .before .before .before .before .before .args .field)) (c .before .before .before .before .before .args .text .now) (size-below (c .before .before .before .before .before .args .text .now) (c .before .before .before .number-in .ensures) (c .before .before .size-of .ensures) (c .enum-told .given .1))
+returns-2 c =
+    let given = c .before .before .before .before .before .args in
+    let number-in = c .before .before .before .number-in in
+    let size-of = c .before .before .size-of in
+    let enum-told = c .enum-told in
+    below-reported (byte-plain (given .field)) (given .text .now) (size-below (given .text .now) (number-in .ensures) (size-of .ensures) (enum-told .given .1))
 
 returns-3 : tie.Need-returns-3
-returns-3 c = nothing-reported (byteField (c .before .before .before .before .before .args .field)) (byte-plain (c .before .before .before .before .before .args .field) .one) (c .before .before .before .before .before .args .text .now) (size-nothing (c .before .before .before .before .before .args .text .now) (c .before .before .before .number-in .ensures) (c .before .before .size-of .ensures) (c .enum-told2 .given .1))
+returns-3 c =
+    let given = c .before .before .before .before .before .args in
+    let number-in = c .before .before .before .number-in in
+    let size-of = c .before .before .size-of in
+    let enum-told2 = c .enum-told2 in
+    nothing-reported (byteField (given .field)) (byte-plain (given .field) .one) (given .text .now) (size-nothing (given .text .now) (number-in .ensures) (size-of .ensures) (enum-told2 .given .1))
 
 pub byte-spec : {M : Type 1} → statement M
 byte-spec =

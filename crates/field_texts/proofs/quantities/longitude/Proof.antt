@@ -25,7 +25,13 @@ enum-told-2 : tie.Need-enum-told-2
 enum-told-2 c = search needs
 
 returns : tie.Need-returns
-returns c = longitude-outside (c .before .before .before .before .before .before .before .args .text .now) (sym (c .before .before .before .before .before .number-in .ensures) ∙ c .before .before .before .enum-told .given .1) (signed-none (c .before .before .before .before .before .before .before .args .text .now) (c .before .before .before .before .before .number-in .ensures) (c .enum-told2 .given .1) (c .before .before .signed-32 .ensures))
+returns c =
+    let given = c .before .before .before .before .before .before .before .args in
+    let number-in = c .before .before .before .before .before .number-in in
+    let enum-told = c .before .before .before .enum-told in
+    let signed-32 = c .before .before .signed-32 in
+    let enum-told2 = c .enum-told2 in
+    longitude-outside (given .text .now) (sym (number-in .ensures) ∙ enum-told .given .1) (signed-none (given .text .now) (number-in .ensures) (enum-told2 .given .1) (signed-32 .ensures))
 
 reported-longitude-requires : tie.Need-reported-longitude-requires
 reported-longitude-requires c κs = search needs
@@ -37,7 +43,14 @@ enum-told-3 : tie.Need-enum-told-3
 enum-told-3 c = search needs
 
 returns-2 : tie.Need-returns-2
-returns-2 c = longitude-reported (c .before .before .before .before .before .before .before .before .before .before .args .text .now) (signed-says (c .before .before .before .before .before .before .before .before .before .before .args .text .now) (c .before .before .before .before .before .before .before .before .number-in .ensures) (c .before .before .before .x .given .1) (c .before .before .before .before .before .signed-32 .ensures) .means) (rw (toZ-ofZ {w = w32} {z = c .before .before .before .x .given .0 .0} (search needs)) at (c .before .reported-longitude .ensures)) (c .of-told .ensures)
+returns-2 c =
+    let given = c .before .before .before .before .before .before .before .before .before .before .args in
+    let number-in = c .before .before .before .before .before .before .before .before .number-in in
+    let signed-32 = c .before .before .before .before .before .signed-32 in
+    let read = c .before .before .before .x in
+    let reported-longitude = c .before .reported-longitude in
+    let of-told = c .of-told in
+    longitude-reported (given .text .now) (signed-says (given .text .now) (number-in .ensures) (read .given .1) (signed-32 .ensures) .means) (rw (toZ-ofZ {w = w32} {z = read .given .0 .0} (search needs)) at (reported-longitude .ensures)) (of-told .ensures)
 
 returns-3 : tie.Need-returns-3
 returns-3 c = nothing-reported longitude refl (c .before .before .before .before .args .text .now) (sym (c .before .before .number-in .ensures) ∙ c .enum-told3 .given .1)

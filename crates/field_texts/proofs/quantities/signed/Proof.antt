@@ -54,7 +54,16 @@ with-sign-requires : tie.Need-with-sign-requires
 with-sign-requires c κs = search needs
 
 returns-2 : tie.Need-returns-2
-returns-2 c = rw (first-of (c .before .before .before .before .before .before .before .before .field-end .ensures) (omega (arith, c .before .before .before .before .before .before .before .before .field-end .ensures .inside, c .before .before .before .before .before .before .before .if1 .left))) (c .with-sign .ensures (take (c .before .before .before .before .before .before .before .before .field-end .result - 0) (drop 0 (c .before .before .before .before .before .before .before .before .before .before .args .texts .now))) (take (length (c .before .before .before .before .before .before .before .before .before .before .args .texts .now) - (c .before .before .before .before .before .before .before .before .field-end .result + 1)) (drop (c .before .before .before .before .before .before .before .before .field-end .result + 1) (c .before .before .before .before .before .before .before .before .before .before .args .texts .now))) (subst (λ (n : Numeral). AsSize n (c .before .before .before .before .size-of .result)) (c .before .before .before .before .before .number-in .ensures) (c .before .before .before .before .size-of .ensures)) (subst (λ (n : Numeral). AsSize n (c .before .size-of2 .result)) (c .before .before .number-in2 .ensures) (c .before .size-of2 .ensures)))
+returns-2 c =
+    let given = c .before .before .before .before .before .before .before .before .before .before .args in
+    let field-end = c .before .before .before .before .before .before .before .before .field-end in
+    let if1 = c .before .before .before .before .before .before .before .if1 in
+    let number-in = c .before .before .before .before .before .number-in in
+    let size-of = c .before .before .before .before .size-of in
+    let number-in2 = c .before .before .number-in2 in
+    let size-of2 = c .before .size-of2 in
+    let with-sign = c .with-sign in
+    rw (first-of (field-end .ensures) (omega (arith, field-end .ensures .inside, if1 .left))) (with-sign .ensures (take (field-end .result - 0) (drop 0 (given .texts .now))) (take (length (given .texts .now) - (field-end .result + 1)) (drop (field-end .result + 1) (given .texts .now))) (subst (λ (n : Numeral). AsSize n (size-of .result)) (number-in .ensures) (size-of .ensures)) (subst (λ (n : Numeral). AsSize n (size-of2 .result)) (number-in2 .ensures) (size-of2 .ensures)))
 
 pub signed-spec : {M : Type 1} → statement M
 signed-spec =

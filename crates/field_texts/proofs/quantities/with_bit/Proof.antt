@@ -6,7 +6,7 @@ use Rattle.field_texts.proofs.quantities.with_bit.Statement.{statement}
 use Rattle.field_texts.proofs.quantities.with_bit.Tie as tie
 
 returns : tie.Need-returns
-returns c = λ first rest m i. no-sign (c .before .args .field) first rest (c .if1 .taken) m i
+returns c = λ first rest m i. no-sign (c .before .args .field) first rest (omega arith) m i
 
 capped-requires : tie.Need-capped-requires
 capped-requires c κs = search needs
@@ -18,7 +18,12 @@ of-told-requires : tie.Need-of-told-requires
 of-told-requires c κs = search needs
 
 returns-2 : tie.Need-returns-2
-returns-2 c = λ first rest m i. signed-reported first rest (omega arith) m i (c .before .reported-signed .result) (c .of-told .ensures) (c .before .before .before .before .args .field) (rw (c .before .before .capped .ensures) at (c .before .reported-signed .ensures))
+returns-2 c =
+    let given = c .before .before .before .before .args in
+    let capped = c .before .before .capped in
+    let reported-signed = c .before .reported-signed in
+    let of-told = c .of-told in
+    λ first rest m i. signed-reported first rest (omega arith) m i (reported-signed .result) (of-told .ensures) (given .field) (rw (capped .ensures) at (reported-signed .ensures))
 
 pub with-bit-spec : {M : Type 1} → statement M
 with-bit-spec =

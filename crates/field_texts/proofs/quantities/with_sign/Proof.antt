@@ -51,7 +51,11 @@ returns-5 : tie.Need-returns-5
 returns-5 c = λ first rest a b. rest-nothing (c .before .before .before .before .before .args .field) first rest (size-nothing rest refl b (c .enum-told6 .given .1))
 
 returns-6 : tie.Need-returns-6
-returns-6 c = λ first rest a b. rest-below (c .before .before .before .before .before .args .field) first rest (size-code first refl a (c .before .before .before .sign .given .1)) (size-below rest refl b (c .enum-told7 .given .1))
+returns-6 c =
+    let given = c .before .before .before .before .before .args in
+    let sign = c .before .before .before .sign in
+    let enum-told7 = c .enum-told7 in
+    λ first rest a b. rest-below (given .field) first rest (size-code first refl a (sign .given .1)) (size-below rest refl b (enum-told7 .given .1))
 
 returns-7 : tie.Need-returns-7
 returns-7 c = λ first rest a b. c .with-bit .ensures first rest (size-code first refl a (c .before .before .before .before .before .sign .given .1)) (size-code rest refl b (c .before .before .size .given .1))

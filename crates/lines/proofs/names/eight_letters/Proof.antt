@@ -36,7 +36,14 @@ place-if-requires c κs = search needs
 
 returns-3 : tie.Need-returns-3
 unfolding nameOf ofLength
-returns-3 c = if-third (c .before .before .before .before .before .before .before .before .before .args .word .now) latitude altitude included refl (c .before .before .before .before .before .before .before .before .before .pre) (untrue (c .before .before .before .before .before .if1 .left) (c .before .before .before .before .before .before .same .ensures .1)) (untrue (c .before .before .if2 .left) (c .before .before .before .same2 .ensures .1)) (c .place-if .ensures)
+returns-3 c =
+    let given = c .before .before .before .before .before .before .before .before .before .args in
+    let same = c .before .before .before .before .before .before .same in
+    let if1 = c .before .before .before .before .before .if1 in
+    let same2 = c .before .before .before .same2 in
+    let if2 = c .before .before .if2 in
+    let place-if = c .place-if in
+    if-third (given .word .now) latitude altitude included refl (c .before .before .before .before .before .before .before .before .before .pre) (untrue (if1 .left) (same .ensures .1)) (untrue (if2 .left) (same2 .ensures .1)) (place-if .ensures)
 
 pub eight-letters-spec : {M : Type 1} → statement M
 eight-letters-spec =

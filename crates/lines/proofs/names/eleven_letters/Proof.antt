@@ -26,7 +26,12 @@ place-if-requires c κs = search needs
 
 returns-2 : tie.Need-returns-2
 unfolding nameOf ofLength
-returns-2 c = if-second (c .before .before .before .before .before .before .args .word .now) uncertainty orientation refl (c .before .before .before .before .before .before .pre) (untrue (c .before .before .if1 .left) (c .before .before .before .same .ensures .1)) (c .place-if .ensures)
+returns-2 c =
+    let given = c .before .before .before .before .before .before .args in
+    let same = c .before .before .before .same in
+    let if1 = c .before .before .if1 in
+    let place-if = c .place-if in
+    if-second (given .word .now) uncertainty orientation refl (c .before .before .before .before .before .before .pre) (untrue (if1 .left) (same .ensures .1)) (place-if .ensures)
 
 pub eleven-letters-spec : {M : Type 1} → statement M
 eleven-letters-spec =

@@ -111,7 +111,7 @@ unfolding nameOf ofLength
 returns-11 c = if-alone (c .before .before .before .before .args .word .now) altitudeUncertainty refl (c .before .before .match .keys11) (c .place-if9 .ensures)
 
 returns-12 : tie.Need-returns-12
-returns-12 c = not-named (λ f e. no-length _ (c .match .rest .0 .0 .0 .0 .0 .0 .0 .0 .0 .0 .1) (c .match .rest .0 .0 .0 .0 .0 .0 .0 .0 .0 .1) (c .match .rest .0 .0 .0 .0 .0 .0 .0 .0 .1) (c .match .rest .0 .0 .0 .0 .0 .0 .0 .1) (c .match .rest .0 .0 .0 .0 .0 .0 .1) (c .match .rest .0 .0 .0 .0 .0 .1) (c .match .rest .0 .0 .0 .0 .1) (c .match .rest .0 .0 .0 .1) (c .match .rest .0 .0 .1) (c .match .rest .0 .1) (c .match .rest .1) f (ap length e)) refl
+returns-12 c = let r = c .match .rest in not-named (λ f e. no-length _ (r .0 .0 .0 .0 .0 .0 .0 .0 .0 .0 .1) (r .0 .0 .0 .0 .0 .0 .0 .0 .0 .1) (r .0 .0 .0 .0 .0 .0 .0 .0 .1) (r .0 .0 .0 .0 .0 .0 .0 .1) (r .0 .0 .0 .0 .0 .0 .1) (r .0 .0 .0 .0 .0 .1) (r .0 .0 .0 .0 .1) (r .0 .0 .0 .1) (r .0 .0 .1) (r .0 .1) (r .1) f (ap length e)) refl
 
 pub place-of-spec : {M : Type 1} → statement M
 place-of-spec =
