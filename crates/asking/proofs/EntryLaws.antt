@@ -17,7 +17,7 @@ use Rattle.numerals.specs.declared.numerals.Numeral.the-variants.{Number, Nothi
 use Rattle.numerals.proofs.MarkLaws.{none-then-first}
 use Rattle.numerals.proofs.NumeralLaws.{row-stopped, row-whole}
 use Rattle.text.proofs.OutputLaws.{split}
-use Rattle.asking.specs.Asking.{IsAbsent}
+use Rattle.numerals.specs.Fields.{IsAbsent}
 use Rattle.asking.specs.Entries.{Holds, entryOf, PastSign, EntryAt}
 
 -- ---- what holds by each mark

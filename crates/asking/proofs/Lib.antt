@@ -1,4 +1,4 @@
-pub mod FieldLaws
+pub mod PartedLaws
 pub mod AmountLaws
 pub mod AskingLaws
 pub mod EntryLaws

@@ -1,13 +1,14 @@
 -- THE LINES of the chooser's input. Assumes nothing.
 use mathlib.Core.Path.{_≡_}
-use mathlib.Core.List.{List, [], _∷_}
+use mathlib.Core.List.{List}
 use Prim.Native.Nat.{ℕ, _<_, _^_}
 use lib.ListN.{length}
-use lib.IntN.{ℤ, pos}
+use lib.IntN.{pos}
 use Rattle.ground.specs.declared.quantities.Confidence.{Confidence}
 use Rattle.ground.specs.declared.quantities.Confidence.the-variants as confident
 use Rattle.numerals.specs.Numerals.{numeralOf}
-use Rattle.numerals.specs.Widths.{Means, FitsSigned}
+use Rattle.numerals.specs.Widths.{Means}
+use Rattle.numerals.specs.Fields.{fieldsOf, fieldAt, IsAbsent, SaysSigned, SaysUnsigned}
 use Rattle.requests.specs.declared.Request.{Request}
 use Rattle.requests.specs.declared.Altitude.{Altitude}
 use Rattle.requests.specs.declared.Altitude.the-variants as level
@@ -17,23 +18,8 @@ use Rattle.requests.specs.declared.AltitudeUncertainty.{AltitudeUncertainty}
 use Rattle.requests.specs.declared.AltitudeUncertainty.the-variants as height
 use Rattle.asking.specs.declared.request_lines.Asked.{Asked}
 use Rattle.asking.specs.declared.request_lines.Asked.the-variants as asked
-use Rattle.asking.specs.Fields.{fieldsOf, fieldAt}
 
 -- ---- what a field says
-
--- `-`
-abbrev pub IsAbsent : List ℕ → Type 0
-IsAbsent f = f ≡ 45 ∷ []
-
--- it writes z, which so many bits with a sign can hold
-pub record SaysSigned (bits : ℕ) (f : List ℕ) (z : ℤ) : Type 0 where
-  pub means : Means (numeralOf f) z
-  pub fits : FitsSigned bits z
-
--- it writes n, which 32 bits without a sign can hold
-pub record SaysUnsigned (f : List ℕ) (n : ℕ) : Type 0 where
-  pub means : Means (numeralOf f) (pos n)
-  pub fits : n < 2 ^ 32
 
 abbrev pub SaysAltitude : List ℕ → Altitude → Type 0
 SaysAltitude f (level.Asked a) = SaysSigned 32 f (a .0)

@@ -8,8 +8,7 @@ use Rattle.numerals.specs.Marks.{FirstMark}
 use Rattle.numerals.specs.Numerals.{numeralOf}
 use Rattle.numerals.specs.declared.numerals.Numeral.the-variants.{Number, Nothing}
 use Rattle.asking.specs.declared.entries.Entry.{Entry}
-use Rattle.asking.specs.Asking.{IsAbsent}
-use Rattle.asking.specs.Fields.{fieldsOf, fieldAt}
+use Rattle.numerals.specs.Fields.{fieldsOf, fieldAt, IsAbsent}
 
 -- the field writes a number of that size (marks 1 and 2, a minus sign with 2), is a dash (3), or neither (0)
 pub record Holds (f : List ℕ) (mark size : ℕ) : Type 0 where

@@ -1,5 +1,4 @@
 pub mod Answers
 pub mod Asking
 pub mod Entries
-pub mod Fields
 pub mod Reading

@@ -17,7 +17,7 @@ ghost use mathlib.Core.List.{List};
 ghost use Prim.Native.Nat.{ℕ};
 ghost use Rattle.asking.specs.Asking.{Asks};
 ghost use Rattle.asking.specs.Entries.{Eight};
-ghost use Rattle.asking.specs.Fields.{fieldAt};
+ghost use Rattle.numerals.specs.Fields.{fieldAt};
 ghost use Rattle.asking.specs.Reading.{areaOf, noAreaOf, horizontalOf, ReadsHorizontal, ReadsUncertainty, ReadsConfidence};
 
 pub enum Asked {

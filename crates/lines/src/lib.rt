@@ -1,13 +1,16 @@
 // A line of the coder's input, `code NAME QUANTITY` or `report NAME CODE..` with one space between two fields, and its answer.
-mod code_lines;
 mod names;
-mod report_lines;
 
 use printing::Printed;
-ghost use Rattle.lines.specs.Lines.{Answered};
+ghost use mathlib.Core.Path.{_≡_};
+ghost use mathlib.Core.List.{List, _∷_};
+ghost use Prim.Native.Nat.{ℕ};
+ghost use Rattle.numerals.specs.Fields.{fieldsOf};
+ghost use Rattle.lines.specs.Names.{IsVerb};
+ghost use Rattle.lines.specs.Lines.{Answers};
 
 pub fn answer(line: &[u8]) -> Printed
-    ensures { λ r. ⌜ Answered (now (line .entry)) r ⌝ }
+    ensures { λ r. ⌜ Answers (now (line .entry)) r ⌝ }
 {
     let end = numerals::field_end(line, 0);
     if end == line.len() {
@@ -18,9 +21,10 @@ pub fn answer(line: &[u8]) -> Printed
     named(verb, &line[from..])
 }
 
-// The answer for the name that the fields start with; verb 0 is `code`, 1 `report`. How many fields come after the name is left
-// to what reads them.
-fn named(verb: usize, fields: &[u8]) -> Printed {
+// The answer for a line whose verb is that and whose fields after it are those. How many come after the name is left to what reads them.
+fn named(verb: usize, fields: &[u8]) -> Printed
+    ensures { λ r. ⌜ ((line word : List ℕ) → fieldsOf line ≡ word ∷ fieldsOf (now (fields .entry)) → IsVerb word verb → Answers line r) ⌝ }
+{
     let end = numerals::field_end(fields, 0);
     if end == fields.len() {
         return Printed::Unreadable;
@@ -29,8 +33,8 @@ fn named(verb: usize, fields: &[u8]) -> Printed {
     let place = names::place_of(&fields[0..end]);
     let rest = &fields[from..];
     match verb {
-        0 => code_lines::coded(place, rest),
-        1 => report_lines::reported(place, rest),
+        0 => field_texts::coded(place, rest),
+        1 => field_texts::reported(place, rest),
         _ => Printed::Unreadable,
     }
 }

@@ -1,10 +1,15 @@
 // The verb and the name in a line, as numbers.
+ghost use mathlib.Core.Path.{_≡_};
+ghost use lib.ListN.{length};
+ghost use Rattle.lines.specs.Names.{IsVerb, Placed, PlacedIf};
 
 // The place of what is none of the fourteen names, whose places are from 0 on.
 const NOWHERE: usize = 14;
 
 // 0 is `code`, 1 `report`, 2 neither.
-pub fn verb_of(word: &[u8]) -> usize {
+pub fn verb_of(word: &[u8]) -> usize
+    ensures { λ r. ⌜ IsVerb (now (word .entry)) r ⌝ }
+{
     if check::same(word, b"code") {
         return 0;
     }
@@ -15,7 +20,9 @@ pub fn verb_of(word: &[u8]) -> usize {
 }
 
 // The place of a name. No more than three names have the same length.
-pub fn place_of(word: &[u8]) -> usize {
+pub fn place_of(word: &[u8]) -> usize
+    ensures { λ r. ⌜ Placed (now (word .entry)) r ⌝ }
+{
     match word.len() {
         6 => place_if(word, b"offset", 6),
         7 => place_if(word, b"bearing", 9),
@@ -32,7 +39,10 @@ pub fn place_of(word: &[u8]) -> usize {
     }
 }
 
-fn eight_letters(word: &[u8]) -> usize {
+fn eight_letters(word: &[u8]) -> usize
+    requires { ⌜ length (now word) ≡ 8 ⌝ }
+    ensures { λ r. ⌜ Placed (now (word .entry)) r ⌝ }
+{
     if check::same(word, b"latitude") {
         return 0;
     }
@@ -42,7 +52,10 @@ fn eight_letters(word: &[u8]) -> usize {
     place_if(word, b"included", 7)
 }
 
-fn eleven_letters(word: &[u8]) -> usize {
+fn eleven_letters(word: &[u8]) -> usize
+    requires { ⌜ length (now word) ≡ 11 ⌝ }
+    ensures { λ r. ⌜ Placed (now (word .entry)) r ⌝ }
+{
     if check::same(word, b"uncertainty") {
         return 2;
     }
@@ -50,7 +63,9 @@ fn eleven_letters(word: &[u8]) -> usize {
 }
 
 // The place, if the word is that name.
-fn place_if(word: &[u8], name: &[u8], place: usize) -> usize {
+fn place_if(word: &[u8], name: &[u8], place: usize) -> usize
+    ensures { λ r. ⌜ PlacedIf (now (word .entry)) (now (name .entry)) place r ⌝ }
+{
     if check::same(word, name) {
         return place;
     }

@@ -1,4 +1,6 @@
+pub mod FieldLaws
 pub mod MarkLaws
 pub mod NumeralLaws
 pub mod ReadBack
 pub mod WidthLaws
+pub mod SaysLaws

@@ -1,6 +1,7 @@
 -- No number of 32 bits, one too large, or the list.
 use native.Mathlib.Omega.{arith}
-use Rattle.asking.proofs.AskingLaws.{unsigned-says, unsigned-none, list-none, list-too-large, list-written}
+use Rattle.numerals.proofs.SaysLaws.{unsigned-says, unsigned-none}
+use Rattle.asking.proofs.AskingLaws.{list-none, list-too-large, list-written}
 use borrow.Author.Needs.{needs}
 use Rattle.asking.proofs.list_in.Statement.{statement}
 use Rattle.asking.proofs.list_in.Tie as tie

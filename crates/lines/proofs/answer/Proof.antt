@@ -1,7 +1,10 @@
 -- `lines::answer` meets its contract: past the first test there is a space, where the first field ends. Assumes nothing.
-use Prim.Native.Nat.{_<_}
+use mathlib.Core.Path.{ap}
 use native.Mathlib.Omega.{arith}
 use lib.ListN.{length}
+use Rattle.numerals.proofs.FieldLaws.{unmarked}
+use Rattle.field_texts.proofs.ReportLaws.{first-of}
+use Rattle.lines.proofs.LineLaws.{too-few}
 use borrow.Author.Needs.{needs}
 use Rattle.lines.proofs.answer.Statement.{statement}
 use Rattle.lines.proofs.answer.Tie as tie
@@ -10,7 +13,7 @@ field-end-requires : tie.Need-field-end-requires
 field-end-requires c κs = search needs
 
 returns : tie.Need-returns
-returns c = search needs
+returns c = too-few (c .before .before .before .args .line .now) (omega (arith, ap length (unmarked (c .before .field-end .ensures) (omega arith))))
 
 add-from : tie.Need-add-from
 add-from c = search needs
@@ -41,9 +44,12 @@ named-requires c κs = search needs
 
 returns-2 : tie.Need-returns-2
 returns-2 c =
-    let f = c .before .before .before .before .before .field-end in
-    let inside : f .result < length (c .before .before .before .before .before .before .before .args .line .now) = omega (arith, f .ensures .inside, c .before .before .before .before .if1 .left) in
-    record { one-field = λ none. absurd (none (f .result) inside (f .ensures .found inside)) }
+    let given = c .before .before .before .before .before .before .before .args in
+    let field-end = c .before .before .before .before .before .field-end in
+    let if1 = c .before .before .before .before .if1 in
+    let verb-of = c .before .before .verb-of in
+    let named = c .named in
+    named .ensures (given .line .now) _ (first-of (field-end .ensures) (omega (arith, field-end .ensures .inside, if1 .left))) (verb-of .ensures)
 
 pub answer-spec : {M : Type 1} → statement M
 answer-spec =

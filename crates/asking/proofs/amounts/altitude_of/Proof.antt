@@ -1,7 +1,8 @@
 -- A dash, or a number, or neither.
 use mir.Syntax.{w32}
 use mir.Facts.{toZ-ofZ}
-use Rattle.asking.proofs.AskingLaws.{signed-says, signed-none, no-altitude}
+use Rattle.numerals.proofs.SaysLaws.{signed-says, signed-none}
+use Rattle.asking.proofs.AskingLaws.{no-altitude}
 use borrow.Author.Needs.{needs}
 use Rattle.asking.proofs.amounts.altitude_of.Statement.{statement}
 use Rattle.asking.proofs.amounts.altitude_of.Tie as tie

@@ -1,5 +1,5 @@
 -- A dash, or a number, or neither.
-use Rattle.asking.proofs.AskingLaws.{unsigned-says, unsigned-none, unsigned-unread}
+use Rattle.numerals.proofs.SaysLaws.{unsigned-says, unsigned-none, unsigned-unread}
 use borrow.Author.Needs.{needs}
 use Rattle.asking.proofs.amounts.amount_of.Statement.{statement}
 use Rattle.asking.proofs.amounts.amount_of.Tie as tie

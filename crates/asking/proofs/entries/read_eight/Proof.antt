@@ -2,7 +2,7 @@
 use Prim.Native.Nat.{_-_, _≤_}
 use mathlib.Core.Path.{_≡_}
 use native.Mathlib.Omega.{arith}
-use Rattle.asking.proofs.FieldLaws.{Parted, parted-none, parted-more, too-few, too-many, parted-last}
+use Rattle.asking.proofs.PartedLaws.{Parted, parted-none, parted-more, too-few, too-many, parted-last}
 use borrow.Author.Needs.{needs}
 use Rattle.asking.proofs.entries.read_eight.Statement.{statement}
 use Rattle.asking.proofs.entries.read_eight.Tie as tie

@@ -1,6 +1,6 @@
 -- What the three amounts make is what the three fields say.
 use native.Mathlib.Omega.{arith}
-use Rattle.asking.specs.Fields.{fieldAt}
+use Rattle.numerals.specs.Fields.{fieldAt}
 use Rattle.asking.proofs.AskingLaws.{horizontal-reads}
 use borrow.Author.Needs.{needs}
 use Rattle.asking.proofs.request_lines.horizontal_in.Statement.{statement}

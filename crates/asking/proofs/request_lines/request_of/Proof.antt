@@ -7,9 +7,9 @@ use Rattle.asking.specs.declared.amounts.AltitudeRead.{AltitudeRead}
 use Rattle.asking.specs.declared.request_lines.HorizontalRead.{HorizontalRead}
 use Rattle.asking.specs.declared.request_lines.UncertaintyRead.{UncertaintyRead}
 use Rattle.asking.specs.declared.request_lines.ConfidenceRead.{ConfidenceRead}
-use Rattle.asking.specs.Fields.{fieldAt}
+use Rattle.numerals.specs.Fields.{fieldAt}
 use Rattle.asking.specs.Reading.{ReadsAltitude, ReadsHorizontal, ReadsUncertainty, ReadsConfidence}
-use Rattle.asking.proofs.AskingLaws.{coordinate-says, no-coordinate}
+use Rattle.numerals.proofs.SaysLaws.{coordinate-says, no-coordinate}
 use borrow.Author.Needs.{needs}
 use Rattle.asking.proofs.request_lines.request_of.Statement.{statement}
 use Rattle.asking.proofs.request_lines.request_of.Tie as tie

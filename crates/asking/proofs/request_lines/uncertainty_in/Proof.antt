@@ -2,7 +2,7 @@
 use mathlib.Core.Path.{subst}
 use native.Mathlib.Omega.{arith}
 use Rattle.asking.specs.declared.amounts.Amount.{Amount}
-use Rattle.asking.specs.Fields.{fieldAt}
+use Rattle.numerals.specs.Fields.{fieldAt}
 use Rattle.asking.specs.Reading.{ReadsAmount}
 use Rattle.asking.proofs.AskingLaws.{no-uncertainty}
 use borrow.Author.Needs.{needs}

@@ -1,10 +1,13 @@
--- The fields of a line. Assumes nothing.
+-- The fields of a line, and what a field says. Assumes nothing.
 use mathlib.Core.Path.{_≡_}
 use mathlib.Core.Bool.{cond}
 use mathlib.Core.List.{List, [], _∷_, _++_}
-use Prim.Native.Nat.{ℕ, _≤_}
+use Prim.Native.Nat.{ℕ, _≤_, _<_, _^_}
 use lib.ListN.{length, getD, drop}
 use lib.Dec.{eqb}
+use lib.IntN.{ℤ, pos}
+use Rattle.numerals.specs.Numerals.{numeralOf}
+use Rattle.numerals.specs.Widths.{Means, FitsSigned}
 
 -- the fields of a line whose first field starts with f: a field ends at each space (32)
 unfoldable pub fieldsFrom : List ℕ → List ℕ → List (List ℕ)
@@ -17,6 +20,22 @@ fieldsOf line = fieldsFrom [] line
 -- the field of that number, from 0
 abbrev pub fieldAt : List ℕ → ℕ → List ℕ
 fieldAt line number = getD (fieldsOf line) number []
+
+-- ---- what a field says
+
+-- `-`
+abbrev pub IsAbsent : List ℕ → Type 0
+IsAbsent f = f ≡ 45 ∷ []
+
+-- it writes z, which so many bits with a sign can hold
+pub record SaysSigned (bits : ℕ) (f : List ℕ) (z : ℤ) : Type 0 where
+  pub means : Means (numeralOf f) z
+  pub fits : FitsSigned bits z
+
+-- it writes n, which 32 bits without a sign can hold
+pub record SaysUnsigned (f : List ℕ) (n : ℕ) : Type 0 where
+  pub means : Means (numeralOf f) (pos n)
+  pub fits : n < 2 ^ 32
 
 -- ---- where a field stands
 

@@ -1,0 +1,95 @@
+-- A text that was read as a number of some width writes a quantity, or none where there was no such number. Assumes nothing.
+use mathlib.Core.Path.{_≡_, refl, sym, subst, _∙_}
+use mathlib.Core.Bool.{Bool, true, false}
+use mathlib.Core.List.{List}
+use Prim.Native.Nat.{ℕ}
+use lib.Dec.{T}
+use lib.IntN.{ℤ}
+use Rattle.ground.specs.declared.quantities.UncertaintySpeed.{UncertaintySpeed}
+use Rattle.ground.specs.declared.quantities.UncertaintySpeed.the-variants as uncertain
+use Rattle.ground.specs.declared.quantities.Confidence.{Confidence}
+use Rattle.ground.specs.declared.quantities.Confidence.the-variants as confident
+use Rattle.ground.specs.declared.told.Told.{Told}
+use Rattle.fields.specs.Fields.{Field, latitude, longitude, uncertainty, altitudeUncertainty, altitude, innerRadius, offset, included, orientation, bearing, horizontalSpeed, verticalSpeed, uncertaintySpeed, confidence, QuantityOf}
+use Rattle.coding.specs.declared.Coordinate.{Coordinate}
+use Rattle.coding.specs.declared.Coordinate.the-variants as coordinate
+use Rattle.coding.specs.declared.Unsigned.{Unsigned}
+use Rattle.coding.specs.declared.Unsigned.the-variants as unsigned
+use Rattle.coding.specs.Tells.{TellsCoordinate, TellsUnsigned}
+use Rattle.numerals.specs.Fields.{IsAbsent, SaysSigned, SaysUnsigned, fieldsOf}
+use Rattle.numerals.proofs.FieldLaws.{alone, number-uncut}
+use Rattle.printing.specs.Printing.{printedOf}
+use Rattle.printing.specs.declared.printed.Printed.{Printed}
+use Rattle.printing.specs.declared.printed.Printed.the-variants.{Unreadable}
+use Rattle.field_texts.specs.Written.{Writes, WritesUncertaintySpeed, WritesConfidence, placeOf}
+use Rattle.field_texts.specs.Texts.{Codes, coded, no-quantity, coordinateField, CodesUnsigned}
+
+-- what a test that is false refutes
+pub untrue : {P : Type 0} {r : Bool} → r ≡ false → (P → r ≡ true) → P → ⊥
+untrue e f p = let q : true ≡ false = sym (f p) ∙ e in subst T q tt
+
+pub unwritten : (f : Field) (text : List ℕ) → ((x : QuantityOf f) → Writes f text x → ⊥) → Codes f (fieldsOf text) Unreadable
+unwritten f text h = no-quantity (λ t x e w. h x (subst (λ (s : List ℕ). Writes f s x) (alone text e) w)) refl
+
+-- ---- coordinates
+
+pub coordinate-coded : (k : Coordinate) {text : List ℕ} {x : ℤ} (a : Told) {r : Printed} → SaysSigned 64 text x → TellsCoordinate k (record { 0 = x }) a → r ≡ printedOf a → Codes (coordinateField k) (fieldsOf text) r
+coordinate-coded coordinate.Latitude {text} a s t p = coded (number-uncut text (s .means)) s t p
+coordinate-coded coordinate.Longitude {text} a s t p = coded (number-uncut text (s .means)) s t p
+
+pub coordinate-uncoded : (k : Coordinate) (text : List ℕ) → ((z : ℤ) → SaysSigned 64 text z → ⊥) → Codes (coordinateField k) (fieldsOf text) Unreadable
+coordinate-uncoded coordinate.Latitude text h = unwritten latitude text (λ x s. h (x .0) s)
+coordinate-uncoded coordinate.Longitude text h = unwritten longitude text (λ x s. h (x .0) s)
+
+-- ---- what has no sign
+
+module _ (text : List ℕ) (h : (n : ℕ) → SaysUnsigned text n → ⊥) (d : IsAbsent text → ⊥) where
+  no-speed : (x : UncertaintySpeed) → WritesUncertaintySpeed text x → ⊥
+  no-speed (uncertain.Speed s) w = h (s .0) w
+  no-speed uncertain.Missing w = d w
+
+  no-confidence : (x : Confidence) → WritesConfidence text x → ⊥
+  no-confidence (confident.PerCent p) w = h p w
+  no-confidence confident.Missing w = d w
+
+pub unsigned-coded : (k : Unsigned) {text : List ℕ} {n : ℕ} (a : Told) {r : Printed} → SaysUnsigned text n → TellsUnsigned k n a → r ≡ printedOf a → CodesUnsigned k text r
+unsigned-coded unsigned.Uncertainty {text} a s t p = coded (number-uncut text (s .means)) s t p
+unsigned-coded unsigned.AltitudeUncertainty {text} a s t p = coded (number-uncut text (s .means)) s t p
+unsigned-coded unsigned.InnerRadius {text} a s t p = coded (number-uncut text (s .means)) s t p
+unsigned-coded unsigned.Offset {text} a s t p = coded (number-uncut text (s .means)) s t p
+unsigned-coded unsigned.Included {text} a s t p = coded (number-uncut text (s .means)) s t p
+unsigned-coded unsigned.Orientation {text} a s t p = coded (number-uncut text (s .means)) s t p
+unsigned-coded unsigned.Bearing {text} a s t p = coded (number-uncut text (s .means)) s t p
+unsigned-coded unsigned.HorizontalSpeed {text} a s t p = coded (number-uncut text (s .means)) s t p
+unsigned-coded unsigned.UncertaintySpeed {text} a s t p = λ d. coded (number-uncut text (s .means)) s t p
+unsigned-coded unsigned.Confidence {text} a s t p = λ d. coded (number-uncut text (s .means)) s t p
+
+pub unsigned-uncoded : (k : Unsigned) (text : List ℕ) → ((n : ℕ) → SaysUnsigned text n → ⊥) → CodesUnsigned k text Unreadable
+unsigned-uncoded unsigned.Uncertainty text h = unwritten uncertainty text (λ x s. h (x .0) s)
+unsigned-uncoded unsigned.AltitudeUncertainty text h = unwritten altitudeUncertainty text (λ x s. h (x .0) s)
+unsigned-uncoded unsigned.InnerRadius text h = unwritten innerRadius text (λ x s. h (x .0) s)
+unsigned-uncoded unsigned.Offset text h = unwritten offset text (λ x s. h (x .0) s)
+unsigned-uncoded unsigned.Included text h = unwritten included text (λ x s. h (x .0) s)
+unsigned-uncoded unsigned.Orientation text h = unwritten orientation text (λ x s. h (x .0) s)
+unsigned-uncoded unsigned.Bearing text h = unwritten bearing text (λ x s. h (x .0) s)
+unsigned-uncoded unsigned.HorizontalSpeed text h = unwritten horizontalSpeed text (λ x s. h (x .0) s)
+unsigned-uncoded unsigned.UncertaintySpeed text h = λ d. unwritten uncertaintySpeed text (no-speed text h d)
+unsigned-uncoded unsigned.Confidence text h = λ d. unwritten confidence text (no-confidence text h d)
+
+-- ---- a place that is no field's
+
+pub past-fields : (n : ℕ) → (n ≡ 0 → ⊥) → (n ≡ 1 → ⊥) → (n ≡ 2 → ⊥) → (n ≡ 3 → ⊥) → (n ≡ 4 → ⊥) → (n ≡ 5 → ⊥) → (n ≡ 6 → ⊥) → (n ≡ 7 → ⊥) → (n ≡ 8 → ⊥) → (n ≡ 9 → ⊥) → (n ≡ 10 → ⊥) → (n ≡ 11 → ⊥) → (n ≡ 12 → ⊥) → (n ≡ 13 → ⊥) → (f : Field) → placeOf f ≡ n → ⊥
+past-fields n a b c d e g h i j k l m o p latitude z = a (sym z)
+past-fields n a b c d e g h i j k l m o p longitude z = b (sym z)
+past-fields n a b c d e g h i j k l m o p uncertainty z = c (sym z)
+past-fields n a b c d e g h i j k l m o p altitudeUncertainty z = d (sym z)
+past-fields n a b c d e g h i j k l m o p altitude z = e (sym z)
+past-fields n a b c d e g h i j k l m o p innerRadius z = g (sym z)
+past-fields n a b c d e g h i j k l m o p offset z = h (sym z)
+past-fields n a b c d e g h i j k l m o p included z = i (sym z)
+past-fields n a b c d e g h i j k l m o p orientation z = j (sym z)
+past-fields n a b c d e g h i j k l m o p bearing z = k (sym z)
+past-fields n a b c d e g h i j k l m o p horizontalSpeed z = l (sym z)
+past-fields n a b c d e g h i j k l m o p verticalSpeed z = m (sym z)
+past-fields n a b c d e g h i j k l m o p uncertaintySpeed z = o (sym z)
+past-fields n a b c d e g h i j k l m o p confidence z = p (sym z)

@@ -1,0 +1,3 @@
+pub mod CodeLaws
+pub mod ReportLaws
+pub mod OneText

@@ -1,0 +1,105 @@
+-- What the texts behind a name write: a quantity, or the numbers of a code. Assumes nothing.
+use mathlib.Core.Bool.{Bool, cond}
+use mathlib.Core.List.{List, [], _∷_}
+use Prim.Native.Nat.{ℕ}
+use lib.IntN.{ℤ, pos}
+use Rattle.ground.specs.declared.quantities.UncertaintySpeed.{UncertaintySpeed}
+use Rattle.ground.specs.declared.quantities.UncertaintySpeed.the-variants as uncertain
+use Rattle.ground.specs.declared.quantities.Confidence.{Confidence}
+use Rattle.ground.specs.declared.quantities.Confidence.the-variants as confident
+use Rattle.fields.specs.Fields.{Field, latitude, longitude, uncertainty, altitudeUncertainty, altitude, innerRadius, offset, included, orientation, bearing, horizontalSpeed, verticalSpeed, uncertaintySpeed, confidence, CodeOf, QuantityOf}
+use Rattle.numerals.specs.Numerals.{numeralOf}
+use Rattle.numerals.specs.Widths.{Means}
+use Rattle.numerals.specs.Fields.{IsAbsent, SaysSigned, SaysUnsigned}
+
+-- ---- a quantity
+
+-- `-` is a missing quantity
+abbrev pub WritesUncertaintySpeed : List ℕ → UncertaintySpeed → Type 0
+WritesUncertaintySpeed text (uncertain.Speed s) = SaysUnsigned text (s .0)
+WritesUncertaintySpeed text uncertain.Missing = IsAbsent text
+
+abbrev pub WritesConfidence : List ℕ → Confidence → Type 0
+WritesConfidence text (confident.PerCent p) = SaysUnsigned text p
+WritesConfidence text confident.Missing = IsAbsent text
+
+-- the text writes the quantity, which fits the width in which it arrives: coordinates signed in 64 bits, altitude and vertical
+-- speed signed in 32, the others unsigned in 32
+abbrev pub Writes : (f : Field) → List ℕ → QuantityOf f → Type 0
+Writes latitude text x = SaysSigned 64 text (x .0)
+Writes longitude text x = SaysSigned 64 text (x .0)
+Writes uncertainty text x = SaysUnsigned text (x .0)
+Writes altitudeUncertainty text x = SaysUnsigned text (x .0)
+Writes altitude text x = SaysSigned 32 text (x .0)
+Writes innerRadius text x = SaysUnsigned text (x .0)
+Writes offset text x = SaysUnsigned text (x .0)
+Writes included text x = SaysUnsigned text (x .0)
+Writes orientation text x = SaysUnsigned text (x .0)
+Writes bearing text x = SaysUnsigned text (x .0)
+Writes horizontalSpeed text x = SaysUnsigned text (x .0)
+Writes verticalSpeed text x = SaysSigned 32 text (x .0)
+Writes uncertaintySpeed text x = WritesUncertaintySpeed text x
+Writes confidence text x = WritesConfidence text x
+
+-- ---- the numbers of a code
+
+-- each text writes the number in its place; one that 64 bits can't hold counts as their largest, which no field holds either
+pub data WriteNumbers : List (List ℕ) → List ℤ → Type 0 where
+  none : WriteNumbers [] []
+  more : {text : List ℕ} {texts : List (List ℕ)} {z : ℤ} {zs : List ℤ} → Means (numeralOf text) z → WriteNumbers texts zs → WriteNumbers (text ∷ texts) (z ∷ zs)
+
+-- S or D, which is 1 or 0, and N
+abbrev pub signedNumbers : Bool → ℕ → List ℤ
+signedNumbers s n = pos (cond s 1 0) ∷ pos n ∷ []
+
+-- the numbers of a code: S or D and N, or N alone
+abbrev pub numbersOf : (f : Field) → CodeOf f → List ℤ
+numbersOf latitude c = signedNumbers (c .0) (c .1)
+numbersOf longitude c = c .0 ∷ []
+numbersOf uncertainty c = pos (c .0) ∷ []
+numbersOf altitudeUncertainty c = pos (c .0) ∷ []
+numbersOf altitude c = signedNumbers (c .0) (c .1)
+numbersOf innerRadius c = pos (c .0) ∷ []
+numbersOf offset c = pos (c .0) ∷ []
+numbersOf included c = pos (c .0) ∷ []
+numbersOf orientation c = pos (c .0) ∷ []
+numbersOf bearing c = pos (c .0) ∷ []
+numbersOf horizontalSpeed c = pos (c .0) ∷ []
+numbersOf verticalSpeed c = signedNumbers (c .0) (c .1)
+numbersOf uncertaintySpeed c = pos (c .0) ∷ []
+numbersOf confidence c = pos (c .0) ∷ []
+
+-- how many they are
+abbrev pub countOf : Field → ℕ
+countOf latitude = 2
+countOf longitude = 1
+countOf uncertainty = 1
+countOf altitudeUncertainty = 1
+countOf altitude = 2
+countOf innerRadius = 1
+countOf offset = 1
+countOf included = 1
+countOf orientation = 1
+countOf bearing = 1
+countOf horizontalSpeed = 1
+countOf verticalSpeed = 2
+countOf uncertaintySpeed = 1
+countOf confidence = 1
+
+-- ---- the place of a name
+
+abbrev pub placeOf : Field → ℕ
+placeOf latitude = 0
+placeOf longitude = 1
+placeOf uncertainty = 2
+placeOf altitudeUncertainty = 3
+placeOf altitude = 4
+placeOf innerRadius = 5
+placeOf offset = 6
+placeOf included = 7
+placeOf orientation = 8
+placeOf bearing = 9
+placeOf horizontalSpeed = 10
+placeOf verticalSpeed = 11
+placeOf uncertaintySpeed = 12
+placeOf confidence = 13

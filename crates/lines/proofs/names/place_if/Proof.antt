@@ -1,0 +1,19 @@
+-- `names::place_if` meets its contract: the word is the name, or it is not. Assumes nothing.
+use mathlib.Core.Path.{refl}
+use Rattle.lines.specs.Names.{is, other}
+use Rattle.field_texts.proofs.CodeLaws.{untrue}
+use borrow.Author.Needs.{needs}
+use Rattle.lines.proofs.names.place_if.Statement.{statement}
+use Rattle.lines.proofs.names.place_if.Tie as tie
+
+same-requires : tie.Need-same-requires
+same-requires c κs = search needs
+
+returns : tie.Need-returns
+returns c = is (c .before .same .ensures .0 (c .if1 .taken)) refl
+
+returns-2 : tie.Need-returns-2
+returns-2 c = other (untrue (c .if1 .left) (c .before .same .ensures .1)) refl
+
+pub place-if-spec : {M : Type 1} → statement M
+place-if-spec = tie.close (tie.spec same-requires returns returns-2)
