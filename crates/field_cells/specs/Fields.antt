@@ -16,6 +16,7 @@ use Rattle.ground.specs.declared.told.Told.{Told}
 use Rattle.ground.specs.declared.told.Told.the-variants as told
 use Rattle.octets.specs.Codes.{bitOf, signOf}
 use Rattle.fields.specs.Fields.{Field, latitude, longitude, uncertainty, altitudeUncertainty, altitude, innerRadius, offset, included, orientation, bearing, horizontalSpeed, verticalSpeed, uncertaintySpeed, confidence, CodeOf, QuantityOf}
+use Rattle.fields.specs.Places.{placeOf}
 use Rattle.coding.specs.declared.Unsigned.{Unsigned}
 use Rattle.coding.specs.declared.Unsigned.the-variants as unsigned
 use Rattle.coding.specs.declared.Markable.{Markable}
@@ -30,24 +31,6 @@ use Rattle.reporting.specs.declared.Signed.the-variants as signed
 use Rattle.reporting.specs.Tells as reporting
 use Rattle.cells.specs.Codes.{cellAt, fromBits, bitsOf}
 use Rattle.cells.specs.Quantities.{missing, Natural32, Signed32}
-
--- ---- THE NUMBERS OF THE FIELDS, in the order of document 01's table and of the coder's names
-
-abbrev pub numberOf : Field → ℕ
-numberOf latitude = 0
-numberOf longitude = 1
-numberOf uncertainty = 2
-numberOf altitudeUncertainty = 3
-numberOf altitude = 4
-numberOf innerRadius = 5
-numberOf offset = 6
-numberOf included = 7
-numberOf orientation = 8
-numberOf bearing = 9
-numberOf horizontalSpeed = 10
-numberOf verticalSpeed = 11
-numberOf uncertaintySpeed = 12
-numberOf confidence = 13
 
 -- ---- CODING
 
@@ -90,10 +73,10 @@ pub data Codes (f : Field) (z : ℤ) (r : Told) : Type 0 where
   outside : ((x : QuantityOf f) → Arrives f z x → ⊥) → r ≡ told.Refused OutOfRange → Codes f z r
   coded : {x : QuantityOf f} → Arrives f z x → coding.Tells f x r → Codes f z r
 
--- of the field of that number; 2 where there is none
+-- of the field whose place is that number; 2 where there is none
 pub data CodesField (number : ℕ) (z : ℤ) (r : Told) : Type 0 where
   no-field : 14 ≤ number → r ≡ told.Refused UnknownType → CodesField number z r
-  of-field : {f : Field} → numberOf f ≡ number → Codes f z r → CodesField number z r
+  of-field : {f : Field} → placeOf f ≡ number → Codes f z r → CodesField number z r
 
 -- ---- REPORTING
 
@@ -153,7 +136,7 @@ pub data Reports (f : Field) (cells : List ℕ) (r : Told) : Type 0 where
 
 pub data ReportsField (number : ℕ) (cells : List ℕ) (r : Told) : Type 0 where
   no-field : 14 ≤ number → r ≡ told.Refused UnknownType → ReportsField number cells r
-  of-field : {f : Field} → numberOf f ≡ number → Reports f cells r → ReportsField number cells r
+  of-field : {f : Field} → placeOf f ≡ number → Reports f cells r → ReportsField number cells r
 
 -- ---- WHAT IS PUT
 

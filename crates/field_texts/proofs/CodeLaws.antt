@@ -21,7 +21,8 @@ use Rattle.numerals.proofs.FieldLaws.{alone, number-uncut}
 use Rattle.printing.specs.Printing.{printedOf}
 use Rattle.printing.specs.declared.printed.Printed.{Printed}
 use Rattle.printing.specs.declared.printed.Printed.the-variants.{Unreadable}
-use Rattle.field_texts.specs.Written.{Writes, WritesUncertaintySpeed, WritesConfidence, placeOf}
+use Rattle.fields.specs.Places.{placeOf}
+use Rattle.field_texts.specs.Written.{Writes, WritesUncertaintySpeed, WritesConfidence}
 use Rattle.field_texts.specs.Texts.{Codes, coded, no-quantity, coordinateField, CodesUnsigned}
 
 -- what a test that is false refutes

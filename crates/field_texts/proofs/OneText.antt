@@ -12,6 +12,8 @@ use Rattle.ground.specs.declared.quantities.UncertaintySpeed.the-variants as un
 use Rattle.ground.specs.declared.quantities.Confidence.{Confidence}
 use Rattle.ground.specs.declared.quantities.Confidence.the-variants as confident
 use Rattle.fields.specs.Fields.{Field, latitude, longitude, uncertainty, altitudeUncertainty, altitude, innerRadius, offset, included, orientation, bearing, horizontalSpeed, verticalSpeed, uncertaintySpeed, confidence, CodeOf, QuantityOf}
+use Rattle.fields.specs.Places.{placeOf}
+use Rattle.fields.proofs.PlaceLaws.{place-one}
 use Rattle.coding.specs.Tells as coding
 use Rattle.coding.proofs.OneTold as coded
 use Rattle.reporting.specs.Tells as reporting
@@ -20,33 +22,9 @@ use Rattle.numerals.proofs.WidthLaws.{means-one}
 use Rattle.numerals.proofs.SaysLaws.{signed-one, unsigned-one, unsigned-dash}
 use Rattle.printing.specs.Printing.{printedOf}
 use Rattle.printing.specs.declared.printed.Printed.{Printed}
-use Rattle.field_texts.specs.Written.{Writes, WritesUncertaintySpeed, WritesConfidence, WriteNumbers, none, more, signedNumbers, numbersOf, countOf, placeOf}
+use Rattle.field_texts.specs.Written.{Writes, WritesUncertaintySpeed, WritesConfidence, WriteNumbers, none, more, signedNumbers, numbersOf, countOf}
 use Rattle.field_texts.specs.Texts.{Codes, no-quantity, CodesAt, Reports, no-code, no-numbers, ReportsAt}
 use Rattle.field_texts.specs.Texts as texts
-
--- ---- one field has a place
-
-abbrev pub all : List Field
-all = latitude ∷ longitude ∷ uncertainty ∷ altitudeUncertainty ∷ altitude ∷ innerRadius ∷ offset ∷ included ∷ orientation ∷ bearing ∷ horizontalSpeed ∷ verticalSpeed ∷ uncertaintySpeed ∷ confidence ∷ []
-
-pub at-place : (f : Field) → (getD all (placeOf f) confidence ≡ f) × (placeOf f < 14)
-at-place latitude = (refl, omega arith)
-at-place longitude = (refl, omega arith)
-at-place uncertainty = (refl, omega arith)
-at-place altitudeUncertainty = (refl, omega arith)
-at-place altitude = (refl, omega arith)
-at-place innerRadius = (refl, omega arith)
-at-place offset = (refl, omega arith)
-at-place included = (refl, omega arith)
-at-place orientation = (refl, omega arith)
-at-place bearing = (refl, omega arith)
-at-place horizontalSpeed = (refl, omega arith)
-at-place verticalSpeed = (refl, omega arith)
-at-place uncertaintySpeed = (refl, omega arith)
-at-place confidence = (refl, omega arith)
-
-pub place-one : (f g : Field) → placeOf f ≡ placeOf g → f ≡ g
-place-one f g e = sym (at-place f .0) ∙ ap (λ (n : ℕ). getD all n confidence) e ∙ at-place g .0
 
 -- ---- a text writes one quantity
 

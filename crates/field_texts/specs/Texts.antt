@@ -22,7 +22,8 @@ use Rattle.numerals.specs.Fields.{IsAbsent, fieldsOf}
 use Rattle.printing.specs.Printing.{printedOf}
 use Rattle.printing.specs.declared.printed.Printed.{Printed}
 use Rattle.printing.specs.declared.printed.Printed.the-variants.{Unreadable, Refused}
-use Rattle.field_texts.specs.Written.{Writes, WriteNumbers, numbersOf, countOf, placeOf}
+use Rattle.fields.specs.Places.{placeOf}
+use Rattle.field_texts.specs.Written.{Writes, WriteNumbers, numbersOf, countOf}
 
 -- ---- coding
 

@@ -85,21 +85,3 @@ countOf horizontalSpeed = 1
 countOf verticalSpeed = 2
 countOf uncertaintySpeed = 1
 countOf confidence = 1
-
--- ---- the place of a name
-
-abbrev pub placeOf : Field → ℕ
-placeOf latitude = 0
-placeOf longitude = 1
-placeOf uncertainty = 2
-placeOf altitudeUncertainty = 3
-placeOf altitude = 4
-placeOf innerRadius = 5
-placeOf offset = 6
-placeOf included = 7
-placeOf orientation = 8
-placeOf bearing = 9
-placeOf horizontalSpeed = 10
-placeOf verticalSpeed = 11
-placeOf uncertaintySpeed = 12
-placeOf confidence = 13

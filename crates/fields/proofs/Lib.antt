@@ -6,3 +6,4 @@ pub mod OneOfEach
 pub mod Kept
 pub mod QuantityLaws
 pub mod Column
+pub mod PlaceLaws

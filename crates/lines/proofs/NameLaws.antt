@@ -8,8 +8,8 @@ use lib.ListN.{length, getD}
 use lib.Dec.{eqb}
 use borrow.Author.Tests.{eq-eqb}
 use Rattle.fields.specs.Fields.{Field, latitude, longitude, uncertainty, altitudeUncertainty, altitude, innerRadius, offset, included, orientation, bearing, horizontalSpeed, verticalSpeed, uncertaintySpeed, confidence}
-use Rattle.field_texts.specs.Written.{placeOf}
-use Rattle.field_texts.proofs.OneText.{all, at-place, place-one}
+use Rattle.fields.specs.Places.{placeOf}
+use Rattle.fields.proofs.PlaceLaws.{all, at-place, place-one}
 use Rattle.lines.specs.Names.{codeVerb, reportVerb, nameOf, IsVerb, Placed, PlacedIf, is, other}
 
 -- ---- the verbs

@@ -12,41 +12,20 @@ use Rattle.ground.specs.declared.quantities.Confidence.{Confidence}
 use Rattle.ground.specs.declared.quantities.Confidence.the-variants as confident
 use Rattle.ground.specs.declared.told.Told.{Told}
 use Rattle.fields.specs.Fields.{Field, latitude, longitude, uncertainty, altitudeUncertainty, altitude, innerRadius, offset, included, orientation, bearing, horizontalSpeed, verticalSpeed, uncertaintySpeed, confidence, CodeOf, QuantityOf}
+use Rattle.fields.specs.Places.{placeOf}
+use Rattle.fields.proofs.PlaceLaws.{place-one, past-places}
 use Rattle.coding.specs.Tells as coding
 use Rattle.coding.proofs.OneTold as coded
 use Rattle.reporting.specs.Tells as reporting
 use Rattle.reporting.proofs.OneTold as reported
-use Rattle.field_cells.specs.Fields.{numberOf, IsNatural, IsSigned, IsUncertaintySpeed, IsConfidence, Arrives, Codes, outside, CodesField, IsCode, Says, cellsOf, Reports, too-short, no-code, ReportsField}
+use Rattle.field_cells.specs.Fields.{IsNatural, IsSigned, IsUncertaintySpeed, IsConfidence, Arrives, Codes, outside, CodesField, IsCode, Says, cellsOf, Reports, too-short, no-code, ReportsField}
 use Rattle.field_cells.specs.Fields as single
 use Rattle.promises.proofs.OneRequest.{byNumber, confidenceIn}
 
 -- ---- the field of a number
 
-abbrev fieldAt : ℕ → Field
-fieldAt n =
-    getD (latitude ∷ longitude ∷ uncertainty ∷ altitudeUncertainty ∷ altitude ∷ innerRadius ∷ offset ∷ included ∷ orientation ∷ bearing ∷ horizontalSpeed ∷ verticalSpeed ∷ uncertaintySpeed ∷ confidence ∷ []) n confidence
-
-numbered : (f : Field) → (fieldAt (numberOf f) ≡ f) × (numberOf f < 14)
-numbered latitude = (refl, omega arith)
-numbered longitude = (refl, omega arith)
-numbered uncertainty = (refl, omega arith)
-numbered altitudeUncertainty = (refl, omega arith)
-numbered altitude = (refl, omega arith)
-numbered innerRadius = (refl, omega arith)
-numbered offset = (refl, omega arith)
-numbered included = (refl, omega arith)
-numbered orientation = (refl, omega arith)
-numbered bearing = (refl, omega arith)
-numbered horizontalSpeed = (refl, omega arith)
-numbered verticalSpeed = (refl, omega arith)
-numbered uncertaintySpeed = (refl, omega arith)
-numbered confidence = (refl, omega arith)
-
-field-one : {n : ℕ} (f g : Field) → numberOf f ≡ n → numberOf g ≡ n → f ≡ g
-field-one f g d e = sym (numbered f .0) ∙ ap fieldAt (d ∙ sym e) ∙ numbered g .0
-
-past-fields : {n : ℕ} (f : Field) → 14 ≤ n → numberOf f ≡ n → ⊥
-past-fields f h e = omega (arith, numbered f .1)
+field-one : {n : ℕ} (f g : Field) → placeOf f ≡ n → placeOf g ≡ n → f ≡ g
+field-one f g d e = place-one f g (d ∙ sym e)
 
 -- ---- the quantity in a cell
 
@@ -115,8 +94,8 @@ told-code-one {f} {z} {a} {b} (single.coded {x = x} s t) (single.coded {x = y} s
 
 pub codes-field-one : {n : ℕ} {z : ℤ} {a b : Told} → CodesField n z a → CodesField n z b → a ≡ b
 codes-field-one (single.no-field h e) (single.no-field h′ e′) = e ∙ sym e′
-codes-field-one (single.no-field h e) (single.of-field {f = f} d c) = absurd (past-fields f h d)
-codes-field-one (single.of-field {f = f} d c) (single.no-field h e) = absurd (past-fields f h d)
+codes-field-one (single.no-field h e) (single.of-field {f = f} d c) = absurd (past-places f h d)
+codes-field-one (single.of-field {f = f} d c) (single.no-field h e) = absurd (past-places f h d)
 codes-field-one {z = z} {b = b} (single.of-field {f = f} d c) (single.of-field {f = g} e c′) = told-code-one c (subst (λ (k : Field). Codes k z b) (field-one g f e d) c′)
 
 told-quantity-one : {f : Field} {cells : List ℕ} {a b : Told} → Reports f cells a → Reports f cells b → a ≡ b
@@ -133,7 +112,7 @@ told-quantity-one {f} {cells} {a} {b} (single.reported {c = c} s t) (single.repo
 
 pub reports-field-one : {n : ℕ} {cells : List ℕ} {a b : Told} → ReportsField n cells a → ReportsField n cells b → a ≡ b
 reports-field-one (single.no-field h e) (single.no-field h′ e′) = e ∙ sym e′
-reports-field-one (single.no-field h e) (single.of-field {f = f} d c) = absurd (past-fields f h d)
-reports-field-one (single.of-field {f = f} d c) (single.no-field h e) = absurd (past-fields f h d)
+reports-field-one (single.no-field h e) (single.of-field {f = f} d c) = absurd (past-places f h d)
+reports-field-one (single.of-field {f = f} d c) (single.no-field h e) = absurd (past-places f h d)
 reports-field-one {cells = cells} {b = b} (single.of-field {f = f} d c) (single.of-field {f = g} e c′) =
     told-quantity-one c (subst (λ (k : Field). Reports k cells b) (field-one g f e d) c′)
