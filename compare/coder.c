@@ -458,20 +458,28 @@ static inline enum answer read_fields(const uint8_t *message, uint32_t type, str
     return DONE;
 }
 
+// The type of a message, of those that have a length.
+static inline enum answer read_type(const uint8_t *message, size_t length, const uint8_t lengths[16], uint32_t *type)
+{
+    if (length == 0)
+        return NO_OCTETS;
+    *type = message[0] >> 4;
+    return lengths[*type] == 0 ? UNKNOWN_TYPE : DONE;
+}
+
 enum answer read_shape(const uint8_t *message, size_t length, struct shape *shape)
 {
     memset(shape, 0, sizeof *shape);
     shape->type = NOTHING;
-    if (length == 0)
-        return NO_OCTETS;
-    uint32_t type = message[0] >> 4;
-    if (shape_length[type] == 0)
-        return UNKNOWN_TYPE;
+    uint32_t type;
+    enum answer answer = read_type(message, length, shape_length, &type);
+    if (answer != DONE)
+        return answer;
     if (type == POLYGON)
         return read_polygon(message, length, shape);
     if (length != shape_length[type])
         return WRONG_LENGTH;
-    enum answer answer = read_fields(message, type, shape);
+    answer = read_fields(message, type, shape);
     if (answer != DONE)
         return answer;
     shape->type = type;
@@ -483,11 +491,10 @@ enum answer read_velocity(const uint8_t *message, size_t length, struct velocity
 {
     memset(velocity, 0, sizeof *velocity);
     velocity->type = NOTHING;
-    if (length == 0)
-        return NO_OCTETS;
-    uint32_t type = message[0] >> 4;
-    if (velocity_length[type] == 0)
-        return UNKNOWN_TYPE;
+    uint32_t type;
+    enum answer answer = read_type(message, length, velocity_length, &type);
+    if (answer != DONE)
+        return answer;
     if (length != velocity_length[type])
         return WRONG_LENGTH;
     uint32_t bearing = two_octets(message) & 511;
