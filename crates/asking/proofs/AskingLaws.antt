@@ -12,9 +12,9 @@ use Rattle.ground.specs.declared.quantities.Confidence.{Confidence}
 use Rattle.ground.specs.declared.quantities.Confidence.the-variants as confident
 use Rattle.numerals.specs.Numerals.{numeralOf}
 use Rattle.numerals.specs.Widths.{Means, FitsSigned}
-use Rattle.numerals.specs.Fields.{fieldAt, IsAbsent, SaysUnsigned}
+use Rattle.numerals.specs.Fields.{fieldAt, IsAbsent, SaysUnsigned, SaysConfidence}
 use Rattle.numerals.proofs.WidthLaws.{means-one}
-use Rattle.numerals.proofs.SaysLaws.{dash-is-none, signed-one, unsigned-one, unsigned-dash}
+use Rattle.numerals.proofs.SaysLaws.{dash-is-none, signed-one, unsigned-one, unsigned-dash, confidence-one}
 use Rattle.requests.specs.declared.Request.{Request}
 use Rattle.requests.specs.declared.Altitude.{Altitude}
 use Rattle.requests.specs.declared.Altitude.the-variants as level
@@ -26,7 +26,7 @@ use Rattle.asking.specs.declared.amounts.Amount.{Amount}
 use Rattle.asking.specs.declared.amounts.Amount.the-variants.{Unreadable}
 use Rattle.asking.specs.declared.request_lines.Asked.{Asked}
 use Rattle.asking.specs.declared.request_lines.Asked.the-variants as asked
-use Rattle.asking.specs.Asking.{SaysAltitude, SaysHorizontal, SaysUncertainty, SaysConfidence, Says, Asks, SaysList, ListIn}
+use Rattle.asking.specs.Asking.{SaysAltitude, SaysHorizontal, SaysUncertainty, Says, Asks, SaysList, ListIn}
 use Rattle.asking.specs.Reading.{ReadsAmount, ReadsHorizontal, horizontalOf}
 use Rattle.asking.proofs.AmountLaws as amounts
 
@@ -106,12 +106,6 @@ uncertainty-one f (height.Asked R) (height.Asked Q) s t = ap (λ (n : ℕ). heig
 uncertainty-one f (height.Asked R) height.NotAsked s t = absurd (unsigned-dash s t)
 uncertainty-one f height.NotAsked (height.Asked Q) s t = absurd (unsigned-dash t s)
 uncertainty-one f height.NotAsked height.NotAsked s t = refl
-
-confidence-one : (f : List ℕ) (a b : Confidence) → SaysConfidence f a → SaysConfidence f b → a ≡ b
-confidence-one f (confident.PerCent m) (confident.PerCent n) s t = ap confident.PerCent (unsigned-one s t)
-confidence-one f (confident.PerCent m) confident.Missing s t = absurd (unsigned-dash s t)
-confidence-one f confident.Missing (confident.PerCent n) s t = absurd (unsigned-dash t s)
-confidence-one f confident.Missing confident.Missing s t = refl
 
 says-one : {line : List ℕ} {p q : Request} → Says line p → Says line q → p ≡ q
 says-one {line} {p} {q} s t =

@@ -4,11 +4,9 @@ use mathlib.Core.List.{List}
 use Prim.Native.Nat.{ℕ, _<_, _^_}
 use lib.ListN.{length}
 use lib.IntN.{pos}
-use Rattle.ground.specs.declared.quantities.Confidence.{Confidence}
-use Rattle.ground.specs.declared.quantities.Confidence.the-variants as confident
 use Rattle.numerals.specs.Numerals.{numeralOf}
 use Rattle.numerals.specs.Widths.{Means}
-use Rattle.numerals.specs.Fields.{fieldsOf, fieldAt, IsAbsent, SaysSigned, SaysUnsigned}
+use Rattle.numerals.specs.Fields.{fieldsOf, fieldAt, IsAbsent, SaysSigned, SaysUnsigned, SaysConfidence}
 use Rattle.requests.specs.declared.Request.{Request}
 use Rattle.requests.specs.declared.Altitude.{Altitude}
 use Rattle.requests.specs.declared.Altitude.the-variants as level
@@ -34,10 +32,6 @@ SaysHorizontal f g h horizontal.NotAsked = IsAbsent f × IsAbsent g × IsAbsent 
 abbrev pub SaysUncertainty : List ℕ → AltitudeUncertainty → Type 0
 SaysUncertainty f (height.Asked R) = SaysUnsigned f (R .0)
 SaysUncertainty f height.NotAsked = IsAbsent f
-
-abbrev pub SaysConfidence : List ℕ → Confidence → Type 0
-SaysConfidence f (confident.PerCent n) = SaysUnsigned f n
-SaysConfidence f confident.Missing = IsAbsent f
 
 -- ---- THE PROMISES
 

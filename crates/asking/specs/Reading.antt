@@ -17,8 +17,8 @@ use Rattle.asking.specs.declared.request_lines.UncertaintyRead.{Uncertai
 use Rattle.asking.specs.declared.request_lines.UncertaintyRead.the-variants as height
 use Rattle.asking.specs.declared.request_lines.ConfidenceRead.{ConfidenceRead}
 use Rattle.asking.specs.declared.request_lines.ConfidenceRead.the-variants as confidence
-use Rattle.numerals.specs.Fields.{IsAbsent, SaysUnsigned}
-use Rattle.asking.specs.Asking.{SaysAltitude, SaysHorizontal, SaysUncertainty, SaysConfidence}
+use Rattle.numerals.specs.Fields.{IsAbsent, SaysUnsigned, SaysConfidence}
+use Rattle.asking.specs.Asking.{SaysAltitude, SaysHorizontal, SaysUncertainty}
 
 -- what the field says, and unreadable where it says nothing of that sort
 abbrev pub ReadsAltitude : List ℕ → AltitudeRead → Type 0

@@ -32,6 +32,23 @@ toldCode verticalSpeed c = Signed (c .0) (c .1)
 toldCode uncertaintySpeed c = Natural (c .0)
 toldCode confidence c = Natural (c .0)
 
+-- how many numbers it has
+abbrev pub countOf : Field → ℕ
+countOf latitude = 2
+countOf longitude = 1
+countOf uncertainty = 1
+countOf altitudeUncertainty = 1
+countOf altitude = 2
+countOf innerRadius = 1
+countOf offset = 1
+countOf included = 1
+countOf orientation = 1
+countOf bearing = 1
+countOf horizontalSpeed = 1
+countOf verticalSpeed = 2
+countOf uncertaintySpeed = 1
+countOf confidence = 1
+
 -- what a coder's answer tells
 abbrev pub toldBy : (f : Field) → CodedOf f → Told
 toldBy f r = tells (toldCode f) (saidCode f r)

@@ -22,6 +22,7 @@ use Rattle.coding.specs.declared.Unsigned.the-variants as unsigned
 use Rattle.coding.specs.declared.Markable.{Markable}
 use Rattle.coding.specs.declared.Markable.the-variants as markable
 use Rattle.coding.specs.Tells as coding
+use Rattle.coding.specs.Tells.{countOf}
 use Rattle.reporting.specs.declared.Byte.{Byte}
 use Rattle.reporting.specs.declared.Byte.the-variants as byte
 use Rattle.reporting.specs.declared.Word.{Word}
@@ -111,27 +112,10 @@ Says verticalSpeed cells c = IsSignedCode cells (c .0) (c .1)
 Says uncertaintySpeed cells c = IsCode cells (c .0)
 Says confidence cells c = IsCode cells (c .0)
 
--- how many cells a field's code has
-abbrev pub cellsOf : Field → ℕ
-cellsOf latitude = 2
-cellsOf longitude = 1
-cellsOf uncertainty = 1
-cellsOf altitudeUncertainty = 1
-cellsOf altitude = 2
-cellsOf innerRadius = 1
-cellsOf offset = 1
-cellsOf included = 1
-cellsOf orientation = 1
-cellsOf bearing = 1
-cellsOf horizontalSpeed = 1
-cellsOf verticalSpeed = 2
-cellsOf uncertaintySpeed = 1
-cellsOf confidence = 1
-
 -- 3 where cells are missing, 7 where they say no code of the field's type, else what the field's reporter tells
 pub data Reports (f : Field) (cells : List ℕ) (r : Told) : Type 0 where
-  too-short : length cells < cellsOf f → r ≡ told.Refused WrongLength → Reports f cells r
-  no-code : cellsOf f ≤ length cells → ((c : CodeOf f) → Says f cells c → ⊥) → r ≡ told.Refused OutOfRange → Reports f cells r
+  too-short : length cells < countOf f → r ≡ told.Refused WrongLength → Reports f cells r
+  no-code : countOf f ≤ length cells → ((c : CodeOf f) → Says f cells c → ⊥) → r ≡ told.Refused OutOfRange → Reports f cells r
   reported : {c : CodeOf f} → Says f cells c → reporting.Tells f c r → Reports f cells r
 
 pub data ReportsField (number : ℕ) (cells : List ℕ) (r : Told) : Type 0 where

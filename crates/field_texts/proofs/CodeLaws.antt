@@ -16,13 +16,13 @@ use Rattle.coding.specs.declared.Coordinate.the-variants as coordinate
 use Rattle.coding.specs.declared.Unsigned.{Unsigned}
 use Rattle.coding.specs.declared.Unsigned.the-variants as unsigned
 use Rattle.coding.specs.Tells.{TellsCoordinate, TellsUnsigned}
-use Rattle.numerals.specs.Fields.{IsAbsent, SaysSigned, SaysUnsigned, fieldsOf}
+use Rattle.numerals.specs.Fields.{IsAbsent, SaysSigned, SaysUnsigned, fieldsOf, SaysConfidence}
 use Rattle.numerals.proofs.FieldLaws.{alone, number-uncut}
 use Rattle.printing.specs.Printing.{printedOf}
 use Rattle.printing.specs.declared.printed.Printed.{Printed}
 use Rattle.printing.specs.declared.printed.Printed.the-variants.{Unreadable}
 use Rattle.fields.specs.Places.{placeOf}
-use Rattle.field_texts.specs.Written.{Writes, WritesUncertaintySpeed, WritesConfidence}
+use Rattle.field_texts.specs.Written.{Writes, WritesUncertaintySpeed}
 use Rattle.field_texts.specs.Texts.{Codes, coded, no-quantity, coordinateField, CodesUnsigned}
 
 -- what a test that is false refutes
@@ -49,7 +49,7 @@ module _ (text : List ℕ) (h : (n : ℕ) → SaysUnsigned text n → ⊥) (d : 
   no-speed (uncertain.Speed s) w = h (s .0) w
   no-speed uncertain.Missing w = d w
 
-  no-confidence : (x : Confidence) → WritesConfidence text x → ⊥
+  no-confidence : (x : Confidence) → SaysConfidence text x → ⊥
   no-confidence (confident.PerCent p) w = h p w
   no-confidence confident.Missing w = d w
 

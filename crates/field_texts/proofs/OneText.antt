@@ -9,8 +9,6 @@ use lib.Signed.{mag}
 use lib.ListN.{length, getD}
 use Rattle.ground.specs.declared.quantities.UncertaintySpeed.{UncertaintySpeed}
 use Rattle.ground.specs.declared.quantities.UncertaintySpeed.the-variants as uncertain
-use Rattle.ground.specs.declared.quantities.Confidence.{Confidence}
-use Rattle.ground.specs.declared.quantities.Confidence.the-variants as confident
 use Rattle.fields.specs.Fields.{Field, latitude, longitude, uncertainty, altitudeUncertainty, altitude, innerRadius, offset, included, orientation, bearing, horizontalSpeed, verticalSpeed, uncertaintySpeed, confidence, CodeOf, QuantityOf}
 use Rattle.fields.specs.Places.{placeOf}
 use Rattle.fields.proofs.PlaceLaws.{place-one}
@@ -19,10 +17,11 @@ use Rattle.coding.proofs.OneTold as coded
 use Rattle.reporting.specs.Tells as reporting
 use Rattle.reporting.proofs.OneTold as reported
 use Rattle.numerals.proofs.WidthLaws.{means-one}
-use Rattle.numerals.proofs.SaysLaws.{signed-one, unsigned-one, unsigned-dash}
+use Rattle.numerals.proofs.SaysLaws.{signed-one, unsigned-one, unsigned-dash, confidence-one}
 use Rattle.printing.specs.Printing.{printedOf}
 use Rattle.printing.specs.declared.printed.Printed.{Printed}
-use Rattle.field_texts.specs.Written.{Writes, WritesUncertaintySpeed, WritesConfidence, WriteNumbers, none, more, signedNumbers, numbersOf, countOf}
+use Rattle.coding.specs.Tells.{countOf}
+use Rattle.field_texts.specs.Written.{Writes, WritesUncertaintySpeed, WriteNumbers, none, more, signedNumbers, numbersOf}
 use Rattle.field_texts.specs.Texts.{Codes, no-quantity, CodesAt, Reports, no-code, no-numbers, ReportsAt}
 use Rattle.field_texts.specs.Texts as texts
 
@@ -33,12 +32,6 @@ speed-one t (uncertain.Speed x) (uncertain.Speed y) s u = λ i. uncertain.Speed 
 speed-one t (uncertain.Speed x) uncertain.Missing s u = absurd (unsigned-dash s u)
 speed-one t uncertain.Missing (uncertain.Speed y) s u = absurd (unsigned-dash u s)
 speed-one t uncertain.Missing uncertain.Missing s u = refl
-
-confidence-one : (t : List ℕ) (x y : Confidence) → WritesConfidence t x → WritesConfidence t y → x ≡ y
-confidence-one t (confident.PerCent x) (confident.PerCent y) s u = ap confident.PerCent (unsigned-one s u)
-confidence-one t (confident.PerCent x) confident.Missing s u = absurd (unsigned-dash s u)
-confidence-one t confident.Missing (confident.PerCent y) s u = absurd (unsigned-dash u s)
-confidence-one t confident.Missing confident.Missing s u = refl
 
 pub quantity-one : (f : Field) (t : List ℕ) (x y : QuantityOf f) → Writes f t x → Writes f t y → x ≡ y
 quantity-one latitude t x y s u = λ i. record { 0 = signed-one s u i }

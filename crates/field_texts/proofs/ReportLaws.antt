@@ -39,7 +39,8 @@ use Rattle.numerals.proofs.FieldLaws.{alone, number-uncut, marked}
 use Rattle.printing.specs.Printing.{printedOf}
 use Rattle.printing.specs.declared.printed.Printed.{Printed}
 use Rattle.printing.specs.declared.printed.Printed.the-variants.{Unreadable, Refused}
-use Rattle.field_texts.specs.Written.{WriteNumbers, none, more, signedNumbers, numbersOf, countOf}
+use Rattle.coding.specs.Tells.{countOf}
+use Rattle.field_texts.specs.Written.{WriteNumbers, none, more, signedNumbers, numbersOf}
 use Rattle.field_texts.specs.Texts.{Reports, reported, no-code, no-numbers, byteField, wordField, signedField}
 
 -- ---- a number above 32 bits

@@ -23,7 +23,8 @@ use Rattle.printing.specs.Printing.{printedOf}
 use Rattle.printing.specs.declared.printed.Printed.{Printed}
 use Rattle.printing.specs.declared.printed.Printed.the-variants.{Unreadable, Refused}
 use Rattle.fields.specs.Places.{placeOf}
-use Rattle.field_texts.specs.Written.{Writes, WriteNumbers, numbersOf, countOf}
+use Rattle.coding.specs.Tells.{countOf}
+use Rattle.field_texts.specs.Written.{Writes, WriteNumbers, numbersOf}
 
 -- ---- coding
 

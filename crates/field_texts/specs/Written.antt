@@ -5,12 +5,10 @@ use Prim.Native.Nat.{ℕ}
 use lib.IntN.{ℤ, pos}
 use Rattle.ground.specs.declared.quantities.UncertaintySpeed.{UncertaintySpeed}
 use Rattle.ground.specs.declared.quantities.UncertaintySpeed.the-variants as uncertain
-use Rattle.ground.specs.declared.quantities.Confidence.{Confidence}
-use Rattle.ground.specs.declared.quantities.Confidence.the-variants as confident
 use Rattle.fields.specs.Fields.{Field, latitude, longitude, uncertainty, altitudeUncertainty, altitude, innerRadius, offset, included, orientation, bearing, horizontalSpeed, verticalSpeed, uncertaintySpeed, confidence, CodeOf, QuantityOf}
 use Rattle.numerals.specs.Numerals.{numeralOf}
 use Rattle.numerals.specs.Widths.{Means}
-use Rattle.numerals.specs.Fields.{IsAbsent, SaysSigned, SaysUnsigned}
+use Rattle.numerals.specs.Fields.{IsAbsent, SaysSigned, SaysUnsigned, SaysConfidence}
 
 -- ---- a quantity
 
@@ -18,10 +16,6 @@ use Rattle.numerals.specs.Fields.{IsAbsent, SaysSigned, SaysUnsigned}
 abbrev pub WritesUncertaintySpeed : List ℕ → UncertaintySpeed → Type 0
 WritesUncertaintySpeed text (uncertain.Speed s) = SaysUnsigned text (s .0)
 WritesUncertaintySpeed text uncertain.Missing = IsAbsent text
-
-abbrev pub WritesConfidence : List ℕ → Confidence → Type 0
-WritesConfidence text (confident.PerCent p) = SaysUnsigned text p
-WritesConfidence text confident.Missing = IsAbsent text
 
 -- the text writes the quantity, which fits the width in which it arrives: coordinates signed in 64 bits, altitude and vertical
 -- speed signed in 32, the others unsigned in 32
@@ -39,7 +33,7 @@ Writes bearing text x = SaysUnsigned text (x .0)
 Writes horizontalSpeed text x = SaysUnsigned text (x .0)
 Writes verticalSpeed text x = SaysSigned 32 text (x .0)
 Writes uncertaintySpeed text x = WritesUncertaintySpeed text x
-Writes confidence text x = WritesConfidence text x
+Writes confidence text x = SaysConfidence text x
 
 -- ---- the numbers of a code
 
@@ -68,20 +62,3 @@ numbersOf horizontalSpeed c = pos (c .0) ∷ []
 numbersOf verticalSpeed c = signedNumbers (c .0) (c .1)
 numbersOf uncertaintySpeed c = pos (c .0) ∷ []
 numbersOf confidence c = pos (c .0) ∷ []
-
--- how many they are
-abbrev pub countOf : Field → ℕ
-countOf latitude = 2
-countOf longitude = 1
-countOf uncertainty = 1
-countOf altitudeUncertainty = 1
-countOf altitude = 2
-countOf innerRadius = 1
-countOf offset = 1
-countOf included = 1
-countOf orientation = 1
-countOf bearing = 1
-countOf horizontalSpeed = 1
-countOf verticalSpeed = 2
-countOf uncertaintySpeed = 1
-countOf confidence = 1

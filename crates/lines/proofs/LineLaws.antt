@@ -10,7 +10,8 @@ use Rattle.numerals.specs.Fields.{fieldsOf}
 use Rattle.printing.specs.declared.printed.Printed.{Printed}
 use Rattle.printing.specs.declared.printed.Printed.the-variants.{Unreadable}
 use Rattle.lines.specs.Names.{codeVerb, reportVerb, nameOf, Placed}
-use Rattle.field_texts.specs.Written.{Writes, WriteNumbers, none, more, countOf}
+use Rattle.coding.specs.Tells.{countOf}
+use Rattle.field_texts.specs.Written.{Writes, WriteNumbers, none, more}
 use Rattle.field_texts.specs.Texts as texts
 use Rattle.field_texts.proofs.OneText.{counted}
 use Rattle.lines.specs.Lines.{SaysQuantity, SaysNumbers, Answers, unreadable}

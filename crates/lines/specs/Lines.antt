@@ -12,7 +12,8 @@ use Rattle.numerals.specs.Fields.{fieldsOf}
 use Rattle.printing.specs.Printing.{printedOf}
 use Rattle.printing.specs.declared.printed.Printed.{Printed}
 use Rattle.printing.specs.declared.printed.Printed.the-variants.{Unreadable, Refused}
-use Rattle.field_texts.specs.Written.{Writes, WriteNumbers, numbersOf, countOf}
+use Rattle.coding.specs.Tells.{countOf}
+use Rattle.field_texts.specs.Written.{Writes, WriteNumbers, numbersOf}
 use Rattle.lines.specs.Names.{codeVerb, reportVerb, nameOf}
 
 -- `code NAME QUANTITY`, of a quantity that fits the width in which it arrives

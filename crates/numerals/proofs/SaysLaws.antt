@@ -4,9 +4,11 @@ use mathlib.Core.List.{List}
 use Prim.Native.Nat.{ℕ, _<_, _^_}
 use lib.IntN.{ℤ, pos}
 use lib.Signed.{mag}
+use Rattle.ground.specs.declared.quantities.Confidence.{Confidence}
+use Rattle.ground.specs.declared.quantities.Confidence.the-variants as confident
 use Rattle.numerals.specs.Numerals.{numeralOf, digitsOf}
 use Rattle.numerals.specs.Widths.{Means, FitsSigned, AsSigned64, AsSigned32, AsUnsigned32}
-use Rattle.numerals.specs.Fields.{IsAbsent, SaysSigned, SaysUnsigned}
+use Rattle.numerals.specs.Fields.{IsAbsent, SaysSigned, SaysUnsigned, SaysConfidence}
 use Rattle.numerals.specs.declared.numerals.Numeral.{Numeral}
 use Rattle.numerals.specs.declared.widths.Signed64.{Signed64}
 use Rattle.numerals.specs.declared.widths.Signed64.the-variants as s64
@@ -33,6 +35,12 @@ pub unsigned-dash : {f : List ℕ} {x : ℕ} → SaysUnsigned f x → IsAbsent f
 unsigned-dash s e = dash-is-none e (s .means)
 
 -- ---- a field that was read
+
+pub confidence-one : (f : List ℕ) (a b : Confidence) → SaysConfidence f a → SaysConfidence f b → a ≡ b
+confidence-one f (confident.PerCent m) (confident.PerCent n) s t = ap confident.PerCent (unsigned-one s t)
+confidence-one f (confident.PerCent m) confident.Missing s t = absurd (unsigned-dash s t)
+confidence-one f confident.Missing (confident.PerCent n) s t = absurd (unsigned-dash t s)
+confidence-one f confident.Missing confident.Missing s t = refl
 
 module _ {n : Numeral} (f : List ℕ) (e : n ≡ numeralOf f) where
   pub unsigned-says : {r : Unsigned32} {x : ℕ} → r ≡ u32.Number x → AsUnsigned32 n r → SaysUnsigned f x

@@ -6,6 +6,8 @@ use Prim.Native.Nat.{ℕ, _≤_, _<_, _^_}
 use lib.ListN.{length, getD, drop}
 use lib.Dec.{eqb}
 use lib.IntN.{ℤ, pos}
+use Rattle.ground.specs.declared.quantities.Confidence.{Confidence}
+use Rattle.ground.specs.declared.quantities.Confidence.the-variants as confident
 use Rattle.numerals.specs.Numerals.{numeralOf}
 use Rattle.numerals.specs.Widths.{Means, FitsSigned}
 
@@ -43,3 +45,8 @@ pub record SaysUnsigned (f : List ℕ) (n : ℕ) : Type 0 where
 pub record Starts (line : List ℕ) (number r : ℕ) : Type 0 where
   pub inside : r ≤ length line
   pub rest : fieldsOf (drop r line) ≡ drop number (fieldsOf line)
+
+-- per cent, or none
+abbrev pub SaysConfidence : List ℕ → Confidence → Type 0
+SaysConfidence f (confident.PerCent n) = SaysUnsigned f n
+SaysConfidence f confident.Missing = IsAbsent f

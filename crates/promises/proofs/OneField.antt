@@ -15,10 +15,11 @@ use Rattle.fields.specs.Fields.{Field, latitude, longitude, uncertainty, altitu
 use Rattle.fields.specs.Places.{placeOf}
 use Rattle.fields.proofs.PlaceLaws.{place-one, past-places}
 use Rattle.coding.specs.Tells as coding
+use Rattle.coding.specs.Tells.{countOf}
 use Rattle.coding.proofs.OneTold as coded
 use Rattle.reporting.specs.Tells as reporting
 use Rattle.reporting.proofs.OneTold as reported
-use Rattle.field_cells.specs.Fields.{IsNatural, IsSigned, IsUncertaintySpeed, IsConfidence, Arrives, Codes, outside, CodesField, IsCode, Says, cellsOf, Reports, too-short, no-code, ReportsField}
+use Rattle.field_cells.specs.Fields.{IsNatural, IsSigned, IsUncertaintySpeed, IsConfidence, Arrives, Codes, outside, CodesField, IsCode, Says, Reports, too-short, no-code, ReportsField}
 use Rattle.field_cells.specs.Fields as single
 use Rattle.promises.proofs.OneRequest.{byNumber, confidenceIn}
 
@@ -67,7 +68,7 @@ quantity-one confidence z x y s t = sym (confidence-back z x s) ∙ confidence-b
 code-one : {cells : List ℕ} {n m : ℕ} → IsCode cells n → IsCode cells m → n ≡ m
 code-one s t = s .number ∙ sym (t .number)
 
-saying : (f : Field) (cells : List ℕ) (c d : CodeOf f) → Says f cells c → Says f cells d → (c ≡ d) × (cellsOf f ≤ length cells)
+saying : (f : Field) (cells : List ℕ) (c d : CodeOf f) → Says f cells c → Says f cells d → (c ≡ d) × (countOf f ≤ length cells)
 saying latitude cells c d s t = (λ i. record { 0 = (s .sign ∙ sym (t .sign)) i; 1 = (s .number ∙ sym (t .number)) i }, s .both)
 saying longitude cells c d s t = (λ i. record { 0 = (s .number ∙ sym (t .number)) i }, s .one)
 saying uncertainty cells c d s t = (λ i. record { 0 = code-one s t i }, s .one)
