@@ -24,10 +24,10 @@ pub fn read_shape(s: &[u8]) -> ShapeRead
     }
     let shape = fetching::shape(s, kind, n);
     if let Outcome::Refused(why) = layout::codes_outcome(
-        shape.orientation.0,
-        shape.offset.0,
-        shape.included.0,
-        shape.confidence.0,
+        shape.orientation.0 as u32,
+        shape.offset.0 as u32,
+        shape.included.0 as u32,
+        shape.confidence.0 as u32,
     ) {
         return refused(why);
     }
