@@ -71,6 +71,15 @@ pub fn cells_of(shape: Shape) -> [u32; 61]
     codes
 }
 
+// Puts the cells before the points into the first of the array.
+pub fn put_singles(out: &mut [u32], shape: Shape)
+    requires { ⌜ 61 ≤ length (now out) ⌝ }
+    ensures { λ _. ⌜ now (out .exit) ≡ sets (now (out .entry)) 0 (singleCells shape) ⌝ }
+{
+    let singles = single_cells(shape);
+    cells::put_codes(out, &singles);
+}
+
 // Puts the cells of a record into the first of the array.
 pub fn put_shape(out: &mut [u32], shape: Shape)
     requires { ⌜ 61 ≤ length (now out) ⌝ }
@@ -148,7 +157,7 @@ fn put_points(
 }
 
 // Puts zeros for the points after the first n.
-fn clear_from(out: &mut [u32], n: u8)
+pub fn clear_from(out: &mut [u32], n: u8)
     requires { ⌜ 61 ≤ length (now out) ⌝ }
     requires { ⌜ n ≤ 15 ⌝ }
     ensures { λ _. ⌜ now (out .exit) ≡ sets (now (out .entry)) (16 + 3 * n) (replicate (45 - 3 * n) 0) ⌝ }
