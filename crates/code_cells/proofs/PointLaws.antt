@@ -9,14 +9,12 @@ use lib.ListN.{length, length-append, getD, set, drop, replicate, length-replica
 use lib.Seq.{sets, sets-eq}
 use Rattle.ground.specs.declared.codes.LatitudeCode.{LatitudeCode}
 use Rattle.ground.specs.declared.codes.LongitudeCode.{LongitudeCode}
-use Rattle.octets.specs.Codes.{bitOf}
 use Rattle.layout.specs.Shapes.{upto, zeroLatitude, zeroLongitude}
 use Rattle.fetching.proofs.Filling.{fill}
-use Rattle.cells.specs.Codes.{bitsOf}
 use Rattle.ground.proofs.ListLaws.{sets-append}
 use Rattle.cells.proofs.CopyLaws.{sets-after}
 use Rattle.layout.specs.declared.shapes.Shape.{Shape}
-use Rattle.code_cells.specs.Shapes.{singleCells, pointCells, shapeCells, Ended}
+use Rattle.code_cells.specs.Shapes.{singleCells, pointCell, pointCells, shapeCells, Ended}
 
 module _ (latitudes : List LatitudeCode) (longitudes : List LongitudeCode) where
   pub length-points : (n : ℕ) → length (pointCells latitudes longitudes n) ≡ 3 * n
@@ -24,12 +22,11 @@ module _ (latitudes : List LatitudeCode) (longitudes : List LongitudeCode) where
   length-points (suc n) = length-append (pointCells latitudes longitudes n) _ ∙ omega (arith, length-points n)
 
   -- one point more
-  pub more : (o out : List ℕ) (n : ℕ) {a b : ℕ} → out ≡ sets o 16 (pointCells latitudes longitudes n) → a ≡ bitOf (getD latitudes n zeroLatitude .0) → b ≡ bitsOf (getD longitudes n zeroLongitude .0) → set (set (set out (16 + 3 * n) a) (16 + 3 * n + 1) (getD latitudes n zeroLatitude .1)) (16 + 3 * n + 2) b ≡ sets o 16 (pointCells latitudes longitudes (n + 1))
+  pub more : (o out : List ℕ) (n : ℕ) {a : LatitudeCode} {b : LongitudeCode} → out ≡ sets o 16 (pointCells latitudes longitudes n) → a ≡ getD latitudes n zeroLatitude → b ≡ getD longitudes n zeroLongitude
+      → sets out (16 + 3 * n) (pointCell a b) ≡ sets o 16 (pointCells latitudes longitudes (n + 1))
   more o out n e p q =
-      let v : ℕ = getD latitudes n zeroLatitude .1 in
-      let two : 16 + 3 * n + 2 ≡ suc (suc (16 + 3 * n)) = omega arith in
-      rw (add-one (16 + 3 * n), two, add-one n, e, p, q)
-      (ap (λ (k : ℕ). sets (sets o 16 (pointCells latitudes longitudes n)) (16 + k) (bitOf (getD latitudes n zeroLatitude .0) ∷ v ∷ bitsOf (getD longitudes n zeroLongitude .0) ∷ [])) (sym (length-points n))
+      rw (add-one n, e, p, q)
+      (ap (λ (k : ℕ). sets (sets o 16 (pointCells latitudes longitudes n)) (16 + k) (pointCell (getD latitudes n zeroLatitude) (getD longitudes n zeroLongitude))) (sym (length-points n))
       ∙ sets-append o 16 (pointCells latitudes longitudes n) _)
 
   -- after the last of n points there are zeros

@@ -6,6 +6,7 @@ pub use shapes::cells_of;
 pub use shapes::clear_from;
 pub use shapes::kind_in;
 pub use shapes::outline_in;
+pub use shapes::put_point;
 pub use shapes::put_shape;
 pub use shapes::put_singles;
 pub use shapes::shape_in;

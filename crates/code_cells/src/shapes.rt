@@ -14,13 +14,13 @@ use layout::Kind;
 use layout::Shape;
 ghost use mathlib.Core.Path.{_≡_};
 ghost use mathlib.Core.List.{_++_};
-ghost use Prim.Native.Nat.{_+_, _*_, _-_, _≤_};
+ghost use Prim.Native.Nat.{_+_, _*_, _-_, _≤_, _<_};
 ghost use lib.ListN.{length, drop, replicate};
 ghost use Rattle.ground.specs.Answers.{Decides};
 ghost use Rattle.code_cells.specs.Shapes.{shapeCells, singleCells, heldShape, heldLatitude, heldLongitude, Whole, WholeFields, WholePoints, largestNumbers};
 ghost use Rattle.layout.specs.Shapes.{upto};
 ghost use lib.Seq.{sets};
-ghost use Rattle.code_cells.specs.Shapes.{pointCells, Ended, kindIn, rowsIn, valueIn, outlineIn};
+ghost use Rattle.code_cells.specs.Shapes.{pointCell, pointCells, Ended, kindIn, rowsIn, valueIn, outlineIn};
 ghost use Rattle.layout.specs.Demands.{InFields};
 
 // The kind of the cells' type.
@@ -148,12 +148,21 @@ fn put_points(
     while i < end {
         let latitude = latitudes[i];
         let longitude = longitudes[i];
-        let at = 16 + 3 * i;
-        out[at] = cells::bit(latitude.0);
-        out[at + 1] = latitude.1;
-        out[at + 2] = cells::complement_of(longitude);
+        put_point(out, i, latitude, longitude);
         i += 1;
     }
+}
+
+// Puts the cells of the point i, the first being 0.
+pub fn put_point(out: &mut [u32], i: usize, latitude: LatitudeCode, longitude: LongitudeCode)
+    requires { ⌜ 61 ≤ length (now out) ⌝ }
+    requires { ⌜ i < 15 ⌝ }
+    ensures { λ _. ⌜ now (out .exit) ≡ sets (now (out .entry)) (16 + 3 * i) (pointCell latitude longitude) ⌝ }
+{
+    let at = 16 + 3 * i;
+    out[at] = cells::bit(latitude.0);
+    out[at + 1] = latitude.1;
+    out[at + 2] = cells::complement_of(longitude);
 }
 
 // Puts zeros for the points after the first n.

@@ -2,10 +2,10 @@
 use mathlib.Core.Path.{refl}
 use native.Mathlib.Omega.{arith}
 use Rattle.ground.specs.Answers.{unmet, met}
-use Rattle.reading.proofs.AnswerKinds.{few, enough}
+use Rattle.forming.proofs.AnswerKinds.{few, enough}
 use borrow.Author.Needs.{needs}
-use Rattle.reading.proofs.answers.polygon.Statement.{statement}
-use Rattle.reading.proofs.answers.polygon.Tie as tie
+use Rattle.forming.proofs.polygon.Statement.{statement}
+use Rattle.forming.proofs.polygon.Tie as tie
 
 mul-whole : tie.Need-mul-whole
 mul-whole c = search needs

@@ -2,10 +2,10 @@
 use mathlib.Core.Path.{refl}
 use native.Mathlib.Omega.{arith}
 use Rattle.layout.specs.declared.shapes.Kind.the-variants.{Point, Circle, Ellipse, Polygon, AltitudePoint, AltitudeEllipsoid, Arc}
-use Rattle.reading.proofs.AnswerKinds.{of-kind, nothing, by-length}
+use Rattle.forming.proofs.AnswerKinds.{of-kind, nothing, by-length}
 use borrow.Author.Needs.{needs}
-use Rattle.reading.proofs.answers.outcome.Statement.{statement}
-use Rattle.reading.proofs.answers.outcome.Tie as tie
+use Rattle.forming.proofs.form.Statement.{statement}
+use Rattle.forming.proofs.form.Tie as tie
 
 enum-told : tie.Need-enum-told
 enum-told c = search needs
@@ -76,8 +76,8 @@ returns-7 c = by-length _ _ _ _ AltitudeEllipsoid (c .before .enum-told7 .given 
 returns-8 : tie.Need-returns-8
 returns-8 c = by-length _ _ _ _ Arc (c .before .enum-told8 .given .1) (omega arith) refl (c .of-length6 .ensures)
 
-pub outcome-spec : {M : Type 1} → statement M
-outcome-spec =
+pub form-spec : {M : Type 1} → statement M
+form-spec =
     tie.close
     (tie.spec
     enum-told

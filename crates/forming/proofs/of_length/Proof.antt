@@ -1,7 +1,7 @@
 use mathlib.Core.Path.{refl}
 use Rattle.ground.specs.Answers.{unmet, met}
-use Rattle.reading.proofs.answers.of_length.Statement.{statement}
-use Rattle.reading.proofs.answers.of_length.Tie as tie
+use Rattle.forming.proofs.of_length.Statement.{statement}
+use Rattle.forming.proofs.of_length.Tie as tie
 
 returns : tie.Need-returns
 returns c = met (c .if1 .taken) refl

@@ -22,7 +22,7 @@ use Rattle.layout.specs.Shapes.{kindOf, kindIn, rowsIn, shapeIn, blankShape, Re
 use Rattle.layout.proofs.TidyLaws.{read-in-fields}
 use Rattle.layout.proofs.PolygonLaws.{none-found}
 use Rattle.fetching.specs.Fetching.{rowsFor, OfLength, recordOf}
-use Rattle.reading.specs.Reading.{FormAnswer, RefusedWith}
+use Rattle.forming.specs.Forming.{FormAnswer, RefusedWith}
 
 -- ---- the codes: what is not used reads 0, so a demand on every code is one on those that are used
 

@@ -1,14 +1,27 @@
-// Whether octets have the form of a message of a kind.
+// Whether octets have the form of a message of a kind: document 01, "Refusal numbers".
 use ground::Outcome;
 use ground::Refusal;
 use layout::Kind;
 ghost use Prim.Native.Nat.{_<_};
 ghost use Rattle.ground.specs.Answers.{outcomeNumber};
 ghost use Rattle.layout.specs.declared.shapes.Kind.the-variants.{Polygon};
-ghost use Rattle.reading.specs.Reading.{FormAnswer, LengthAnswer};
+ghost use Rattle.layout.specs.Demands.{CodesAnswer};
+ghost use Rattle.forming.specs.Forming.{FormAnswer, LengthAnswer};
+
+// 5 and 6, of the codes in octets.
+pub fn codes_outcome(orientation: u8, offset: u8, included: u8, confidence: u8) -> Outcome
+    ensures { λ r. ⌜ CodesAnswer orientation offset included confidence (outcomeNumber r) ⌝ }
+{
+    layout::codes_outcome(
+        orientation as u32,
+        offset as u32,
+        included as u32,
+        confidence as u32,
+    )
+}
 
 // 2, 4 and 3, of so many octets; n is a polygon's count.
-pub fn outcome(length: usize, kind: Kind, n: u8) -> Outcome
+pub fn form(length: usize, kind: Kind, n: u8) -> Outcome
     requires { ⌜ n < 16 ⌝ }
     ensures { λ r. ⌜ FormAnswer kind n length (outcomeNumber r) ⌝ }
 {

@@ -9,7 +9,7 @@ use Rattle.layout.specs.Layout.{count, shapeRows}
 use Rattle.layout.specs.Rows.{widthOf, lengthOf}
 use Rattle.layout.specs.Demands.{Listed}
 use Rattle.layout.proofs.PolygonLaws.{polygon-length}
-use Rattle.reading.specs.Reading.{LengthAnswer, FormAnswer}
+use Rattle.forming.specs.Forming.{LengthAnswer, FormAnswer}
 
 module _ (n octets m : ℕ) where
   unused : {P : Type 0} (w : ℕ) → w ≡ 0 → 0 < w → P
