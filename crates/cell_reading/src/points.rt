@@ -18,10 +18,7 @@ pub fn put(out: &mut [u32], s: &[u8], n: u8)
     while i < end {
         let latitude = octets::latitude_at(s, 1 + 6 * i);
         let longitude = octets::longitude_at(s, 4 + 6 * i);
-        let at = 16 + 3 * i;
-        out[at] = cells::bit(latitude.0);
-        out[at + 1] = latitude.1;
-        out[at + 2] = cells::complement_of(longitude);
+        code_cells::put_point(out, i, latitude, longitude);
         i += 1;
     }
 }
