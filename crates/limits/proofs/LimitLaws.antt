@@ -5,7 +5,9 @@ use mathlib.Core.Path.{_≡_, refl, sym, ap, subst, _∙_}
 use mathlib.Core.Bool.{Bool, true, false}
 use mathlib.Core.List.{List, [], _∷_, map}
 use native.Mathlib.Omega.{arith}
+use native.Mathlib.Nat.{add-zero}
 use lib.Dec.{ltb}
+use lib.IntN.{pos, negsuc}
 use lib.ListN.{length, getD, take}
 use lib.Pow.{pow-pos, le-ones, lt-of-le-ones}
 use borrow.Author.Tests.{ltb-true, ltb-false}
@@ -46,7 +48,7 @@ use Rattle.layout.proofs.MessageLaws.{Position}
 use Rattle.cells.specs.Codes.{cellAt, fromBits}
 use Rattle.code_cells.specs.Shapes.{valueIn, kindIn}
 use Rattle.limits.specs.Limits.{CellsInFields, singleFields, numbersIn, largestOf, Within, PointWithin, UsedWithin, NoneFrom, PointsWithin}
-use Rattle.limits.proofs.CellLaws.{same-cell, no-cell}
+use Rattle.limits.proofs.CellLaws.{same-cell, no-cell, south-cell, latitude-cell, longitude-cell}
 
 -- ---- widths that don't depend on the count
 
@@ -106,6 +108,10 @@ at-each : (v w : Field → ℕ) (fs : List Field) → Each (λ f. v f < 2 ^ w f)
 at-each v w [] a i h = absurd (omega arith)
 at-each v w (f ∷ fs) a zero h = le-ones (w f) (a .0)
 at-each v w (f ∷ fs) a (suc i) h = at-each v w fs (a .1) i (omega arith)
+
+-- the fields of velocities
+abbrev velocityFields : List Field
+velocityFields = bearing ∷ horizontalSpeed ∷ down ∷ verticalSpeed ∷ speedUncertainty ∷ verticalUncertainty ∷ []
 
 -- ---- any numbers
 
@@ -183,8 +189,130 @@ module _ (k : Kind) (n : ℕ) (value : Field → ℕ) where
   -- ---- and back
 
   module _ (h : Within (map value singleFields) (largestOf k)) where
-    pub count-back : value count < 2 ^ widthOf (shapeRows k 0) count
+    count-back : value count < 2 ^ widthOf (shapeRows k 0) count
     count-back = lt-of-le-ones (widthOf (shapeRows k 0) count) (h 1 (omega arith))
 
-    pub count-least : value count ≤ 15
-    count-least = most k (value count) count-back
+    pub count-narrow : value count ≤ 15
+    count-narrow = most k (value count) count-back
+
+    fixed-back : (f : Field) → 2 ≤ tag f → tag f < 22 → value f ≤ 2 ^ widthOf (shapeRows k 0) f - 1 → value f < 2 ^ widthOf (shapeRows k n) f
+    fixed-back f a b l = rw (fixed-width k n f a b) (lt-of-le-ones (widthOf (shapeRows k 0) f) l)
+
+    module _
+        (points : (r i : ℕ) → i < pointsOf k n → value (point-row r i .field) < 2 ^ point-row r i .width)
+        (none : (r i : ℕ) → pointsOf k n ≤ i → value (point-row r i .field) ≡ 0)
+        (still : Each (λ f. value f ≡ 0) velocityFields) where
+      zero-back : (f : Field) → value f ≡ 0 → value f < 2 ^ widthOf (shapeRows k n) f
+      zero-back f e = rw e (pow-pos _)
+
+      point-back : (r i : ℕ) → value (point-row r i .field) < 2 ^ widthOf (shapeRows k n) (point-row r i .field)
+      point-back r i = by (ltb i (pointsOf k n)) refl
+        where
+          by : (t : Bool) → ltb i (pointsOf k n) ≡ t → value (point-row r i .field) < 2 ^ widthOf (shapeRows k n) (point-row r i .field)
+          by true e = rw (point-width k n r i (ltb-true _ _ e)) (points r i (ltb-true _ _ e))
+          by false e = zero-back (point-row r i .field) (none r i (ltb-false _ _ e))
+
+      each : (f : Field) → value f < 2 ^ widthOf (shapeRows k n) f
+      each typeNumber = rw (type-width k n) (lt-of-le-ones (widthOf (shapeRows k 0) typeNumber) (h 0 (omega arith)))
+      each count = rw (count-width k n) count-back
+      each (south zero) = fixed-back (south 0) (omega arith) (omega arith) (h 2 (omega arith))
+      each (latitude zero) = fixed-back (latitude 0) (omega arith) (omega arith) (h 3 (omega arith))
+      each (longitude zero) = fixed-back (longitude 0) (omega arith) (omega arith) (h 4 (omega arith))
+      each depth = fixed-back depth (omega arith) (omega arith) (h 5 (omega arith))
+      each altitude = fixed-back altitude (omega arith) (omega arith) (h 6 (omega arith))
+      each uncertainty = fixed-back uncertainty (omega arith) (omega arith) (h 7 (omega arith))
+      each semiMajor = fixed-back semiMajor (omega arith) (omega arith) (h 8 (omega arith))
+      each semiMinor = fixed-back semiMinor (omega arith) (omega arith) (h 9 (omega arith))
+      each orientation = fixed-back orientation (omega arith) (omega arith) (h 10 (omega arith))
+      each altitudeUncertainty = fixed-back altitudeUncertainty (omega arith) (omega arith) (h 11 (omega arith))
+      each innerRadius = fixed-back innerRadius (omega arith) (omega arith) (h 12 (omega arith))
+      each offset = fixed-back offset (omega arith) (omega arith) (h 13 (omega arith))
+      each included = fixed-back included (omega arith) (omega arith) (h 14 (omega arith))
+      each confidence = fixed-back confidence (omega arith) (omega arith) (h 15 (omega arith))
+      each (south (suc i)) = point-back 0 i
+      each (latitude (suc i)) = point-back 1 i
+      each (longitude (suc i)) = point-back 2 i
+      each bearing = zero-back bearing (still .0)
+      each horizontalSpeed = zero-back horizontalSpeed (still .1 .0)
+      each down = zero-back down (still .1 .1 .0)
+      each verticalSpeed = zero-back verticalSpeed (still .1 .1 .1 .0)
+      each speedUncertainty = zero-back speedUncertainty (still .1 .1 .1 .1 .0)
+      each verticalUncertainty = zero-back verticalUncertainty (still .1 .1 .1 .1 .1 .0)
+
+      pub in-fields : InFields (shapeRows k n) value
+      in-fields = record { each = each }
+
+-- ---- a longitude's cell
+
+positive : (n : ℕ) → complement (pos n) ≡ 0 → n ≡ 0
+positive n = by (ltb n 8388608) refl
+  where
+    by : (t : Bool) → ltb n 8388608 ≡ t → complement (pos n) ≡ 0 → n ≡ 0
+    by true e h = rw e at h
+    by false e h = absurd (omega (arith, rw e at h))
+
+negative : (n : ℕ) → complement (negsuc n) ≡ 0 → ⊥
+negative n = by (ltb n 8388608) refl
+  where
+    by : (t : Bool) → ltb n 8388608 ≡ t → complement (negsuc n) ≡ 0 → ⊥
+    by true e h = absurd (omega (arith, ltb-true n 8388608 e, rw e at h))
+    by false e h = absurd (omega (arith, rw e at h))
+
+-- the one cell whose number of 24 bits is zero
+none-turned : (n : ℕ) → complement (fromBits n) ≡ 0 → n ≡ 0
+none-turned n = by (ltb n 2147483648) refl
+  where
+    by : (t : Bool) → ltb n 2147483648 ≡ t → complement (fromBits n) ≡ 0 → n ≡ 0
+    by true e h = positive n (rw e at h)
+    by false e h = absurd (negative (4294967295 - n) (rw e at h))
+
+-- ---- the numbers in cells
+
+module _ (cells : List ℕ) where
+  -- a point's cells are zero where its numbers are
+  cell-none : (r i : ℕ) → r < 3 → i < 15 → valueIn cells (point-row r i .field) ≡ 0 → cellAt cells (16 + 3 * i + r) ≡ 0
+  cell-none zero i h l e = rw (add-zero (16 + 3 * i)) (sym (south-cell cells i l) ∙ e)
+  cell-none (suc zero) i h l e = sym (latitude-cell cells i l) ∙ e
+  cell-none (suc (suc zero)) i h l e = none-turned _ (sym (longitude-cell cells i l) ∙ e)
+  cell-none (suc (suc (suc r))) i h l e = absurd (omega arith)
+
+  module _ (h : CellsInFields cells) where
+    points-used : pointsOf (kindIn cells) (valueIn cells count) ≡ valueIn cells count
+    points-used = used (kindIn cells) (valueIn cells count) (counted (kindIn cells) (valueIn cells count) (valueIn cells) h)
+
+    none-from : NoneFrom cells (16 + 3 * valueIn cells count)
+    none-from at l m =
+        let e : 16 + 3 * ((at - 16) / 3) + (at - 16) % 3 ≡ at = omega arith in
+        rw e at (cell-none ((at - 16) % 3) ((at - 16) / 3) (omega arith) (omega arith) (no-number (kindIn cells) (valueIn cells count) (valueIn cells) h ((at - 16) % 3) ((at - 16) / 3) (omega (arith, points-used))))
+
+    pub cells-points : PointsWithin cells (valueIn cells count)
+    cells-points = record {
+      used = λ i l. let p = points-within (kindIn cells) (valueIn cells count) (valueIn cells) h i (omega (arith, points-used)) in record { sign = p .sign; size = p .size; turn = p .turn };
+      none = none-from;
+    }
+
+  module _ (h : Within (numbersIn cells) (largestOf (kindIn cells))) (p : PointsWithin cells (valueIn cells count)) where
+    none-at : (i : ℕ) → 16 + 3 * valueIn cells count ≤ i → cellAt (take 61 cells) i ≡ 0
+    none-at i l = by (ltb i 61) refl
+      where
+        by : (t : Bool) → ltb i 61 ≡ t → cellAt (take 61 cells) i ≡ 0
+        by true e = sym (same-cell cells i (ltb-true _ _ e)) ∙ p .none i l (ltb-true _ _ e)
+        by false e = sym (no-cell cells i (ltb-false _ _ e))
+
+    used-back : pointsOf (kindIn cells) (valueIn cells count) ≡ valueIn cells count
+    used-back = used (kindIn cells) (valueIn cells count) (count-back (kindIn cells) (valueIn cells count) (valueIn cells) h)
+
+    point-at : (r i : ℕ) → i < valueIn cells count → valueIn cells (point-row r i .field) < 2 ^ point-row r i .width
+    point-at zero i l = p .used i l .sign
+    point-at (suc zero) i l = p .used i l .size
+    point-at (suc (suc r)) i l = p .used i l .turn
+
+    no-point-at : (r i : ℕ) → valueIn cells count ≤ i → valueIn cells (point-row r i .field) ≡ 0
+    no-point-at zero i l = none-at (16 + 3 * i) (omega arith)
+    no-point-at (suc zero) i l = none-at (17 + 3 * i) (omega arith)
+    no-point-at (suc (suc r)) i l = ap (λ (n : ℕ). complement (fromBits n)) (none-at (18 + 3 * i) (omega arith))
+
+    pub cells-in-fields : CellsInFields cells
+    cells-in-fields =
+        in-fields (kindIn cells) (valueIn cells count) (valueIn cells) h (λ r i l. point-at r i (omega (arith, used-back))) (λ r i l. no-point-at r i (omega (arith, used-back)))
+        (refl, (refl, (refl, (refl, (refl, (refl, tt))))))
