@@ -1,7 +1,7 @@
 -- Numbers are in their fields just where those of single fields are at most the largest, and the points' within theirs.
 -- Assumes nothing.
 use Prim.Native.Nat.{ℕ, zero, suc, _+_, _-_, _*_, _/_, _%_, _^_, _≤_, _<_}
-use mathlib.Core.Path.{_≡_, refl, sym, ap, subst, _∙_}
+use mathlib.Core.Path.{_≡_, refl, sym, ap, _∙_}
 use mathlib.Core.Bool.{Bool, true, false}
 use mathlib.Core.List.{List, [], _∷_, map}
 use native.Mathlib.Omega.{arith}
@@ -11,9 +11,9 @@ use lib.IntN.{pos, negsuc}
 use lib.ListN.{length, getD, take}
 use lib.Pow.{pow-pos, le-ones, lt-of-le-ones}
 use borrow.Author.Tests.{ltb-true, ltb-false}
+use Rattle.octets.specs.Codes.{complement}
 use Rattle.layout.specs.declared.shapes.Kind.{Kind}
 use Rattle.layout.specs.declared.shapes.Kind.the-variants.{Nothing, Point, Circle, Ellipse, Polygon, AltitudePoint, AltitudeEllipsoid, Arc}
-use Rattle.octets.specs.Codes.{complement}
 use Rattle.layout.specs.Layout.{
   Field,
   typeNumber,
@@ -47,7 +47,7 @@ use Rattle.layout.proofs.KindLaws.{pointsOf, point-width, no-point-width, fixed
 use Rattle.layout.proofs.MessageLaws.{Position}
 use Rattle.cells.specs.Codes.{cellAt, fromBits}
 use Rattle.code_cells.specs.Shapes.{valueIn, kindIn}
-use Rattle.limits.specs.Limits.{CellsInFields, singleFields, numbersIn, largestOf, Within, PointWithin, UsedWithin, NoneFrom, PointsWithin}
+use Rattle.limits.specs.Limits.{CellsInFields, singleFields, numbersIn, largestOf, Within, NoneFrom, PointsWithin}
 use Rattle.limits.proofs.CellLaws.{same-cell, no-cell, south-cell, latitude-cell, longitude-cell}
 
 -- ---- widths that don't depend on the count

@@ -1,18 +1,14 @@
 -- Each number is in its cell. Assumes nothing.
-use mathlib.Core.Path.{_≡_, ap, _∙_}
+use Prim.Native.Nat.{ℕ}
+use mathlib.Core.Path.{ap, _∙_}
 use mathlib.Core.List.{[], _∷_}
 use native.Mathlib.Omega.{arith}
-use Prim.Native.Nat.{ℕ}
+use borrow.Author.Needs.{needs}
 use Rattle.octets.specs.Codes.{complement}
 use Rattle.cells.specs.Codes.{fromBits}
 use Rattle.limits.proofs.CellLaws.{same-cell}
-use borrow.Author.Needs.{needs}
 use Rattle.limits.proofs.numbers_in.Statement.{statement}
 use Rattle.limits.proofs.numbers_in.Tie as tie
-use Rattle.limits.proofs.numbers_in.Reads as reads
-use Rattle.limits.proofs.numbers_in.Lts as lts
-use Rattle.cells.proofs.longitude_of.Reads as longitude-of-reads
-use Rattle.storing.proofs.complement_of.Reads as complement-of-reads
 
 shared-slice-read-t3 : tie.Need-shared-slice-read-t3
 shared-slice-read-t3 c = search needs

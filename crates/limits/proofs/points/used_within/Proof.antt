@@ -1,18 +1,14 @@
 -- Each point passed is within its fields. Assumes nothing.
-use Rattle.limits.proofs.CellLaws.{south-cell, latitude-cell, longitude-cell}
-use Rattle.octets.specs.Codes.{complement}
+use Prim.Native.Nat.{_-_, _≤_}
 use mathlib.Core.Path.{sym, ap, _∙_}
-use Prim.Native.Nat.{ℕ, suc, _+_, _-_, _*_, _≤_, _<_}
+use native.Mathlib.Omega.{arith}
 use borrow.Author.Needs.{needs}
 use borrow.Author.Count.{below-more}
-use native.Mathlib.Omega.{arith}
-use Rattle.limits.specs.Limits.{PointWithin, UsedWithin}
+use Rattle.octets.specs.Codes.{complement}
+use Rattle.limits.specs.Limits.{UsedWithin}
+use Rattle.limits.proofs.CellLaws.{south-cell, latitude-cell, longitude-cell}
 use Rattle.limits.proofs.points.used_within.Statement.{statement}
 use Rattle.limits.proofs.points.used_within.Tie as tie
-use Rattle.limits.proofs.points.used_within.Reads as reads
-use Rattle.limits.proofs.points.used_within.Lts as lts
-use Rattle.cells.proofs.longitude_of.Reads as longitude-of-reads
-use Rattle.storing.proofs.complement_of.Reads as complement-of-reads
 
 abbrev Inv-loop : tie.InvT-loop
 Inv-loop codes n i₀ i = (i ≤ n) × UsedWithin codes i
@@ -68,8 +64,8 @@ complement-of-requires c κs = search needs
 returns-3 : tie.Need-returns-3 Inv-loop μ-loop
 returns-3 c =
     λ p.
-        let e = longitude-cell (c .before .before .before .before .before .before .before .before .before .before .before .args .codes .now) (c .before .before .before .before .before .before .before .before .before .loop .i) (omega arith) ∙ ap complement (sym (c .before .before .longitude-of .ensures)) ∙ sym (c .before .complement-of .ensures) in
-        omega (arith, p (c .before .before .before .before .before .before .before .before .before .loop .i) (omega arith) .turn)
+    let e = longitude-cell (c .before .before .before .before .before .before .before .before .before .before .before .args .codes .now) (c .before .before .before .before .before .before .before .before .before .loop .i) (omega arith) ∙ ap complement (sym (c .before .before .longitude-of .ensures)) ∙ sym (c .before .complement-of .ensures) in
+    omega (arith, p (c .before .before .before .before .before .before .before .before .before .loop .i) (omega arith) .turn)
 
 add-i : tie.Need-add-i Inv-loop μ-loop
 add-i c = search needs

@@ -1,12 +1,8 @@
 -- Both parts. Assumes nothing.
-use Rattle.ground.proofs.AnswerLaws.{shown, refuted, decided}
 use borrow.Author.Needs.{needs}
+use Rattle.ground.proofs.AnswerLaws.{shown, refuted, decided}
 use Rattle.limits.proofs.points.within.Statement.{statement}
 use Rattle.limits.proofs.points.within.Tie as tie
-use Rattle.limits.proofs.points.within.Reads as reads
-use Rattle.limits.proofs.points.within.Lts as lts
-use Rattle.limits.proofs.points.none_from.Reads as none-from-reads
-use Rattle.limits.proofs.points.used_within.Reads as used-within-reads
 
 used-within-requires : tie.Need-used-within-requires
 used-within-requires c κs = search needs
