@@ -183,7 +183,7 @@ module _ (k : Kind) (n : ℕ) (value : Field → ℕ) where
     points-within i l = record { sign = point-number 0 i l; size = point-number 1 i l; turn = point-number 2 i l }
 
     -- and the others
-    pub no-number : (r i : ℕ) → pointsOf k n ≤ i → value (point-row r i .field) ≡ 0
+    no-number : (r i : ℕ) → pointsOf k n ≤ i → value (point-row r i .field) ≡ 0
     no-number r i l = omega (arith, rw (no-bits k n r i l) at (h .each (point-row r i .field)))
 
   -- ---- and back
