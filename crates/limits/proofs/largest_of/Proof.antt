@@ -1,30 +1,31 @@
--- Each row is the layout table's.
-use Rattle.limits.proofs.widths_of.Statement.{statement}
-use Rattle.limits.proofs.widths_of.Tie as tie
+-- Each row is the layout table's. Assumes nothing.
+use borrow.Author.Needs.{needs}
+use Rattle.limits.proofs.largest_of.Statement.{statement}
+use Rattle.limits.proofs.largest_of.Tie as tie
 
 enum-told : tie.Need-enum-told
-enum-told c = c .match .keys1
+enum-told c = search needs
 
 enum-told-2 : tie.Need-enum-told-2
-enum-told-2 c = c .match .keys2
+enum-told-2 c = search needs
 
 enum-told-3 : tie.Need-enum-told-3
-enum-told-3 c = c .match .keys3
+enum-told-3 c = search needs
 
 enum-told-4 : tie.Need-enum-told-4
-enum-told-4 c = c .match .keys4
+enum-told-4 c = search needs
 
 enum-told-5 : tie.Need-enum-told-5
-enum-told-5 c = c .match .keys5
+enum-told-5 c = search needs
 
 enum-told-6 : tie.Need-enum-told-6
-enum-told-6 c = c .match .keys6
+enum-told-6 c = search needs
 
 enum-told-7 : tie.Need-enum-told-7
-enum-told-7 c = c .match .keys7
+enum-told-7 c = search needs
 
 enum-told-8 : tie.Need-enum-told-8
-enum-told-8 c = c .match .keys8
+enum-told-8 c = search needs
 
 returns : tie.Need-returns
 returns c = rw (c .enum-told .given .1)
@@ -50,8 +51,8 @@ returns-7 c = rw (c .enum-told7 .given .1)
 returns-8 : tie.Need-returns-8
 returns-8 c = rw (c .enum-told8 .given .1)
 
-pub widths-of-spec : {M : Type 1} → statement M
-widths-of-spec =
+pub largest-of-spec : {M : Type 1} → statement M
+largest-of-spec =
     tie.close
     (tie.spec
     enum-told
