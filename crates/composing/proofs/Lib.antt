@@ -1,0 +1,2 @@
+pub mod CellRecords
+pub mod StoreLaws
