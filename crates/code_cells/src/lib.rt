@@ -2,6 +2,9 @@
 mod shapes;
 mod velocities;
 
+pub use shapes::cells_of;
+pub use shapes::kind_in;
+pub use shapes::outline_in;
 pub use shapes::put_shape;
 pub use shapes::shape_in;
 pub use shapes::shape_is_whole;

@@ -11,23 +11,21 @@ use Rattle.octets.proofs.ComplementLaws.{complement-again}
 use Rattle.layout.specs.Layout.{Field, typeNumber, count, south, latitude, longitude}
 use Rattle.layout.specs.Demands.{Listed, InFields}
 use Rattle.layout.specs.Shapes.{valueOf, latitudeOf, longitudeOf, zeroLatitude, zeroLongitude}
-use Rattle.trips.proofs.WidthLaws.{code-of}
 use Rattle.trips.proofs.ShapeRecords.{at-upto, values-of}
 use Rattle.trips.proofs.ShapeTrips.{type-back}
 use Rattle.cells.specs.Codes.{cellAt, fromBits}
 use Rattle.code_cells.specs.Shapes.{kindIn, rowsIn, valueIn, recordIn}
 use Rattle.limits.specs.Limits.{PointWithin}
-use Rattle.limits.proofs.CellLaws.{same-cell, no-cell}
+use Rattle.code_cells.proofs.CellLaws.{same-cell, no-cell, number}
 
 module _ (cells : List ℕ) where
   -- no cell is of a point after the fifteenth
   no-point : (i : ℕ) → 15 ≤ i → (valueIn cells (south (suc i)) ≡ 0) × (valueIn cells (latitude (suc i)) ≡ 0) × (valueIn cells (longitude (suc i)) ≡ 0)
-  no-point i h =
-      (
-        sym (no-cell cells (16 + 3 * i) (omega arith)),
-        sym (no-cell cells (17 + 3 * i) (omega arith)),
-        sym (ap (λ (n : ℕ). complement (fromBits n)) (no-cell cells (18 + 3 * i) (omega arith))),
-      )
+  no-point i h = (
+    sym (no-cell cells (16 + 3 * i) (omega arith)),
+    sym (no-cell cells (17 + 3 * i) (omega arith)),
+    sym (ap (λ (n : ℕ). complement (fromBits n)) (no-cell cells (18 + 3 * i) (omega arith))),
+  )
 
   -- ---- a point that is within its fields
 
@@ -60,4 +58,4 @@ module _ (cells : List ℕ) where
   module _ (listed : Listed (rowsIn cells)) (fields : InFields (rowsIn cells) (valueIn cells)) where
     pub record-values : (f : Field) → valueOf (recordIn cells) f ≡ valueIn cells f
     record-values =
-        values-of (kindIn cells) (valueIn cells) (type-back (valueIn cells typeNumber) (valueIn cells count) listed) (code-of (kindIn cells) (valueIn cells count) (valueIn cells) fields) no-point
+        values-of (kindIn cells) (valueIn cells) (type-back (valueIn cells typeNumber) (valueIn cells count) listed) (number cells fields) no-point

@@ -1,4 +1,5 @@
 // The message of a record that can be written.
+use crate::points;
 use layout::Kind;
 use layout::Shape;
 ghost use mathlib.Core.Path.{_≡_};
@@ -8,6 +9,28 @@ ghost use lib.Seq.{sets};
 ghost use Rattle.layout.specs.Demands.{InFields};
 ghost use Rattle.code_cells.specs.Shapes.{kindIn, rowsIn, valueIn, recordIn};
 ghost use Rattle.composing.specs.Composing.{Storable, stored, restOf, RestFits};
+
+// Stores the message.
+pub fn put(out: &mut [u8], codes: &[u32], kind: Kind)
+    requires { ⌜ 61 ≤ length (now codes) ⌝ }
+    requires { ⌜ kind ≡ kindIn (now codes) ⌝ }
+    requires { ⌜ InFields (rowsIn (now codes)) (valueIn (now codes)) ⌝ }
+    requires { ⌜ Storable (recordIn (now codes)) (length (now out)) ⌝ }
+    ensures { λ _. ⌜ now (out .exit) ≡ stored (recordIn (now (codes .entry))) (now (out .entry)) ⌝ }
+{
+    let first = layout::first_octet(kind);
+    if let Kind::Polygon = kind {
+        out[0] = first + codes[1] as u8;
+        points::put(out, codes);
+        return;
+    }
+    let outline = code_cells::outline_in(codes, kind);
+    let latitude = outline.latitude;
+    let longitude = outline.longitude;
+    out[0] = first;
+    storing::put_position(out, 1, latitude, longitude);
+    put_rest(out, outline);
+}
 
 // Stores the octets after a position.
 fn put_rest(out: &mut [u8], shape: Shape)

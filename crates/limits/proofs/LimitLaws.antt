@@ -1,17 +1,318 @@
--- A stub. Assumes nothing.
-use Prim.Native.Nat.{ℕ, suc, _^_, _<_}
-use mathlib.Core.Path.{_≡_}
+-- Numbers are in their fields just where those of single fields are at most the largest, and the points' within theirs.
+-- Assumes nothing.
+use Prim.Native.Nat.{ℕ, zero, suc, _+_, _-_, _*_, _/_, _%_, _^_, _≤_, _<_}
+use mathlib.Core.Path.{_≡_, refl, sym, ap, _∙_}
+use mathlib.Core.Bool.{Bool, true, false}
+use mathlib.Core.List.{List, [], _∷_, map}
+use native.Mathlib.Omega.{arith}
+use native.Mathlib.Nat.{add-zero}
+use lib.Dec.{ltb}
+use lib.IntN.{pos, negsuc}
+use lib.ListN.{length, getD, take}
+use lib.Pow.{pow-pos, le-ones, lt-of-le-ones}
+use borrow.Author.Tests.{ltb-true, ltb-false}
+use Rattle.octets.specs.Codes.{complement}
 use Rattle.layout.specs.declared.shapes.Kind.{Kind}
-use Rattle.layout.specs.Layout.{Field, shapeRows}
+use Rattle.layout.specs.declared.shapes.Kind.the-variants.{Nothing, Point, Circle, Ellipse, Polygon, AltitudePoint, AltitudeEllipsoid, Arc}
+use Rattle.layout.specs.Layout.{
+  Field,
+  typeNumber,
+  count,
+  south,
+  latitude,
+  longitude,
+  depth,
+  altitude,
+  uncertainty,
+  semiMajor,
+  semiMinor,
+  orientation,
+  altitudeUncertainty,
+  confidence,
+  innerRadius,
+  offset,
+  included,
+  bearing,
+  horizontalSpeed,
+  down,
+  verticalSpeed,
+  speedUncertainty,
+  verticalUncertainty,
+  shapeRows,
+}
+use Rattle.layout.specs.Rows.{tag, widthOf}
 use Rattle.layout.specs.Demands.{InFields}
-use Rattle.layout.proofs.MessageLaws.{Position}
 use Rattle.layout.proofs.PolygonLaws.{point-row}
-use Rattle.layout.proofs.KindLaws.{pointsOf, point-width}
+use Rattle.layout.proofs.KindLaws.{pointsOf, point-width, no-point-width, fixed-width}
+use Rattle.layout.proofs.MessageLaws.{Position}
+use Rattle.cells.specs.Codes.{cellAt, fromBits}
+use Rattle.code_cells.specs.Shapes.{valueIn, kindIn}
+use Rattle.limits.specs.Limits.{CellsInFields, singleFields, numbersIn, largestOf, Within, NoneFrom, PointsWithin}
+use Rattle.limits.proofs.CellLaws.{same-cell, no-cell, south-cell, latitude-cell, longitude-cell}
+
+-- ---- widths that don't depend on the count
+
+type-width : (k : Kind) (n : ℕ) → widthOf (shapeRows k n) typeNumber ≡ widthOf (shapeRows k 0) typeNumber
+type-width Nothing n = refl
+type-width Point n = refl
+type-width Circle n = refl
+type-width Ellipse n = refl
+type-width Polygon n = refl
+type-width AltitudePoint n = refl
+type-width AltitudeEllipsoid n = refl
+type-width Arc n = refl
+
+pub count-width : (k : Kind) (n : ℕ) → widthOf (shapeRows k n) count ≡ widthOf (shapeRows k 0) count
+count-width Nothing n = refl
+count-width Point n = refl
+count-width Circle n = refl
+count-width Ellipse n = refl
+count-width Polygon n = refl
+count-width AltitudePoint n = refl
+count-width AltitudeEllipsoid n = refl
+count-width Arc n = refl
+
+-- a count in its field: at most 15, and zero where there are no points
+most : (k : Kind) (m : ℕ) → m < 2 ^ widthOf (shapeRows k 0) count → m ≤ 15
+most Nothing m h = omega arith
+most Point m h = omega arith
+most Circle m h = omega arith
+most Ellipse m h = omega arith
+most Polygon m h = omega arith
+most AltitudePoint m h = omega arith
+most AltitudeEllipsoid m h = omega arith
+most Arc m h = omega arith
+
+used : (k : Kind) (m : ℕ) → m < 2 ^ widthOf (shapeRows k 0) count → pointsOf k m ≡ m
+used Nothing m h = omega arith
+used Point m h = omega arith
+used Circle m h = omega arith
+used Ellipse m h = omega arith
+used Polygon m h = refl
+used AltitudePoint m h = omega arith
+used AltitudeEllipsoid m h = omega arith
+used Arc m h = omega arith
+
+-- a point after the last has no bits
+no-bits : (k : Kind) (n r i : ℕ) → pointsOf k n ≤ i → widthOf (shapeRows k n) (point-row r i .field) ≡ 0
+no-bits k n zero i h = no-point-width k n (south (suc i)) (omega arith) (omega arith)
+no-bits k n (suc zero) i h = no-point-width k n (latitude (suc i)) (omega arith) (omega arith)
+no-bits k n (suc (suc r)) i h = no-point-width k n (longitude (suc i)) (omega arith) (omega arith)
+
+-- what holds of each of these fields holds at each place of the arrays
+abbrev Each : (Field → Type 0) → List Field → Type 0
+Each P [] = Unit {0}
+Each P (f ∷ fs) = P f × Each P fs
+
+at-each : (v w : Field → ℕ) (fs : List Field) → Each (λ f. v f < 2 ^ w f) fs → (i : ℕ) → i < length fs → getD (map v fs) i 0 ≤ getD (map (λ f. 2 ^ w f - 1) fs) i 0
+at-each v w [] a i h = absurd (omega arith)
+at-each v w (f ∷ fs) a zero h = le-ones (w f) (a .0)
+at-each v w (f ∷ fs) a (suc i) h = at-each v w fs (a .1) i (omega arith)
+
+-- the fields of velocities
+abbrev velocityFields : List Field
+velocityFields = bearing ∷ horizontalSpeed ∷ down ∷ verticalSpeed ∷ speedUncertainty ∷ verticalUncertainty ∷ []
+
+-- ---- any numbers
 
 module _ (k : Kind) (n : ℕ) (value : Field → ℕ) where
   module _ (h : InFields (shapeRows k n) value) where
+    counted : value count < 2 ^ widthOf (shapeRows k 0) count
+    counted = rw (count-width k n) at (h .each count)
+
+    pub count-most : value count ≤ 15
+    count-most = most k (value count) counted
+
+    fixed : (f : Field) → 2 ≤ tag f → tag f < 22 → value f < 2 ^ widthOf (shapeRows k 0) f
+    fixed f a b = rw (fixed-width k n f a b) at (h .each f)
+
+    pub singles-within : Within (map value singleFields) (largestOf k)
+    singles-within =
+        at-each value (widthOf (shapeRows k 0)) singleFields (
+          rw (type-width k n) at (h .each typeNumber),
+          (
+            counted,
+            (
+              fixed (south 0) (omega arith) (omega arith),
+              (
+                fixed (latitude 0) (omega arith) (omega arith),
+                (
+                  fixed (longitude 0) (omega arith) (omega arith),
+                  (
+                    fixed depth (omega arith) (omega arith),
+                    (
+                      fixed altitude (omega arith) (omega arith),
+                      (
+                        fixed uncertainty (omega arith) (omega arith),
+                        (
+                          fixed semiMajor (omega arith) (omega arith),
+                          (
+                            fixed semiMinor (omega arith) (omega arith),
+                            (
+                              fixed orientation (omega arith) (omega arith),
+                              (
+                                fixed altitudeUncertainty (omega arith) (omega arith),
+                                (
+                                  fixed innerRadius (omega arith) (omega arith),
+                                  (
+                                    fixed offset (omega arith) (omega arith),
+                                    (
+                                      fixed included (omega arith) (omega arith),
+                                      (fixed confidence (omega arith) (omega arith), tt),
+                                    ),
+                                  ),
+                                ),
+                              ),
+                            ),
+                          ),
+                        ),
+                      ),
+                    ),
+                  ),
+                ),
+              ),
+            ),
+          ),
+        )
+
+    -- the points that the rows have
     point-number : (r i : ℕ) → i < pointsOf k n → value (point-row r i .field) < 2 ^ point-row r i .width
     point-number r i l = rw (point-width k n r i l) at (h .each (point-row r i .field))
 
     pub points-within : (i : ℕ) → i < pointsOf k n → Position value (suc i)
     points-within i l = record { sign = point-number 0 i l; size = point-number 1 i l; turn = point-number 2 i l }
+
+    -- and the others
+    pub no-number : (r i : ℕ) → pointsOf k n ≤ i → value (point-row r i .field) ≡ 0
+    no-number r i l = omega (arith, rw (no-bits k n r i l) at (h .each (point-row r i .field)))
+
+  -- ---- and back
+
+  module _ (h : Within (map value singleFields) (largestOf k)) where
+    count-back : value count < 2 ^ widthOf (shapeRows k 0) count
+    count-back = lt-of-le-ones (widthOf (shapeRows k 0) count) (h 1 (omega arith))
+
+    pub count-narrow : value count ≤ 15
+    count-narrow = most k (value count) count-back
+
+    fixed-back : (f : Field) → 2 ≤ tag f → tag f < 22 → value f ≤ 2 ^ widthOf (shapeRows k 0) f - 1 → value f < 2 ^ widthOf (shapeRows k n) f
+    fixed-back f a b l = rw (fixed-width k n f a b) (lt-of-le-ones (widthOf (shapeRows k 0) f) l)
+
+    module _
+        (points : (r i : ℕ) → i < pointsOf k n → value (point-row r i .field) < 2 ^ point-row r i .width)
+        (none : (r i : ℕ) → pointsOf k n ≤ i → value (point-row r i .field) ≡ 0)
+        (still : Each (λ f. value f ≡ 0) velocityFields) where
+      zero-back : (f : Field) → value f ≡ 0 → value f < 2 ^ widthOf (shapeRows k n) f
+      zero-back f e = rw e (pow-pos _)
+
+      point-back : (r i : ℕ) → value (point-row r i .field) < 2 ^ widthOf (shapeRows k n) (point-row r i .field)
+      point-back r i = by (ltb i (pointsOf k n)) refl
+        where
+          by : (t : Bool) → ltb i (pointsOf k n) ≡ t → value (point-row r i .field) < 2 ^ widthOf (shapeRows k n) (point-row r i .field)
+          by true e = rw (point-width k n r i (ltb-true _ _ e)) (points r i (ltb-true _ _ e))
+          by false e = zero-back (point-row r i .field) (none r i (ltb-false _ _ e))
+
+      each : (f : Field) → value f < 2 ^ widthOf (shapeRows k n) f
+      each typeNumber = rw (type-width k n) (lt-of-le-ones (widthOf (shapeRows k 0) typeNumber) (h 0 (omega arith)))
+      each count = rw (count-width k n) count-back
+      each (south zero) = fixed-back (south 0) (omega arith) (omega arith) (h 2 (omega arith))
+      each (latitude zero) = fixed-back (latitude 0) (omega arith) (omega arith) (h 3 (omega arith))
+      each (longitude zero) = fixed-back (longitude 0) (omega arith) (omega arith) (h 4 (omega arith))
+      each depth = fixed-back depth (omega arith) (omega arith) (h 5 (omega arith))
+      each altitude = fixed-back altitude (omega arith) (omega arith) (h 6 (omega arith))
+      each uncertainty = fixed-back uncertainty (omega arith) (omega arith) (h 7 (omega arith))
+      each semiMajor = fixed-back semiMajor (omega arith) (omega arith) (h 8 (omega arith))
+      each semiMinor = fixed-back semiMinor (omega arith) (omega arith) (h 9 (omega arith))
+      each orientation = fixed-back orientation (omega arith) (omega arith) (h 10 (omega arith))
+      each altitudeUncertainty = fixed-back altitudeUncertainty (omega arith) (omega arith) (h 11 (omega arith))
+      each innerRadius = fixed-back innerRadius (omega arith) (omega arith) (h 12 (omega arith))
+      each offset = fixed-back offset (omega arith) (omega arith) (h 13 (omega arith))
+      each included = fixed-back included (omega arith) (omega arith) (h 14 (omega arith))
+      each confidence = fixed-back confidence (omega arith) (omega arith) (h 15 (omega arith))
+      each (south (suc i)) = point-back 0 i
+      each (latitude (suc i)) = point-back 1 i
+      each (longitude (suc i)) = point-back 2 i
+      each bearing = zero-back bearing (still .0)
+      each horizontalSpeed = zero-back horizontalSpeed (still .1 .0)
+      each down = zero-back down (still .1 .1 .0)
+      each verticalSpeed = zero-back verticalSpeed (still .1 .1 .1 .0)
+      each speedUncertainty = zero-back speedUncertainty (still .1 .1 .1 .1 .0)
+      each verticalUncertainty = zero-back verticalUncertainty (still .1 .1 .1 .1 .1 .0)
+
+      pub in-fields : InFields (shapeRows k n) value
+      in-fields = record { each = each }
+
+-- ---- a longitude's cell
+
+positive : (n : ℕ) → complement (pos n) ≡ 0 → n ≡ 0
+positive n = by (ltb n 8388608) refl
+  where
+    by : (t : Bool) → ltb n 8388608 ≡ t → complement (pos n) ≡ 0 → n ≡ 0
+    by true e h = rw e at h
+    by false e h = absurd (omega (arith, rw e at h))
+
+negative : (n : ℕ) → complement (negsuc n) ≡ 0 → ⊥
+negative n = by (ltb n 8388608) refl
+  where
+    by : (t : Bool) → ltb n 8388608 ≡ t → complement (negsuc n) ≡ 0 → ⊥
+    by true e h = absurd (omega (arith, ltb-true n 8388608 e, rw e at h))
+    by false e h = absurd (omega (arith, rw e at h))
+
+-- the one cell whose number of 24 bits is zero
+none-turned : (n : ℕ) → complement (fromBits n) ≡ 0 → n ≡ 0
+none-turned n = by (ltb n 2147483648) refl
+  where
+    by : (t : Bool) → ltb n 2147483648 ≡ t → complement (fromBits n) ≡ 0 → n ≡ 0
+    by true e h = positive n (rw e at h)
+    by false e h = absurd (negative (4294967295 - n) (rw e at h))
+
+-- ---- the numbers in cells
+
+module _ (cells : List ℕ) where
+  -- a point's cells are zero where its numbers are
+  cell-none : (r i : ℕ) → r < 3 → i < 15 → valueIn cells (point-row r i .field) ≡ 0 → cellAt cells (16 + 3 * i + r) ≡ 0
+  cell-none zero i h l e = rw (add-zero (16 + 3 * i)) (sym (south-cell cells i l) ∙ e)
+  cell-none (suc zero) i h l e = sym (latitude-cell cells i l) ∙ e
+  cell-none (suc (suc zero)) i h l e = none-turned _ (sym (longitude-cell cells i l) ∙ e)
+  cell-none (suc (suc (suc r))) i h l e = absurd (omega arith)
+
+  module _ (h : CellsInFields cells) where
+    points-used : pointsOf (kindIn cells) (valueIn cells count) ≡ valueIn cells count
+    points-used = used (kindIn cells) (valueIn cells count) (counted (kindIn cells) (valueIn cells count) (valueIn cells) h)
+
+    none-from : NoneFrom cells (16 + 3 * valueIn cells count)
+    none-from at l m =
+        let e : 16 + 3 * ((at - 16) / 3) + (at - 16) % 3 ≡ at = omega arith in
+        rw e at (cell-none ((at - 16) % 3) ((at - 16) / 3) (omega arith) (omega arith) (no-number (kindIn cells) (valueIn cells count) (valueIn cells) h ((at - 16) % 3) ((at - 16) / 3) (omega (arith, points-used))))
+
+    pub cells-points : PointsWithin cells (valueIn cells count)
+    cells-points = record {
+      used = λ i l. let p = points-within (kindIn cells) (valueIn cells count) (valueIn cells) h i (omega (arith, points-used)) in record { sign = p .sign; size = p .size; turn = p .turn };
+      none = none-from;
+    }
+
+  module _ (h : Within (numbersIn cells) (largestOf (kindIn cells))) (p : PointsWithin cells (valueIn cells count)) where
+    none-at : (i : ℕ) → 16 + 3 * valueIn cells count ≤ i → cellAt (take 61 cells) i ≡ 0
+    none-at i l = by (ltb i 61) refl
+      where
+        by : (t : Bool) → ltb i 61 ≡ t → cellAt (take 61 cells) i ≡ 0
+        by true e = sym (same-cell cells i (ltb-true _ _ e)) ∙ p .none i l (ltb-true _ _ e)
+        by false e = sym (no-cell cells i (ltb-false _ _ e))
+
+    used-back : pointsOf (kindIn cells) (valueIn cells count) ≡ valueIn cells count
+    used-back = used (kindIn cells) (valueIn cells count) (count-back (kindIn cells) (valueIn cells count) (valueIn cells) h)
+
+    point-at : (r i : ℕ) → i < valueIn cells count → valueIn cells (point-row r i .field) < 2 ^ point-row r i .width
+    point-at zero i l = p .used i l .sign
+    point-at (suc zero) i l = p .used i l .size
+    point-at (suc (suc r)) i l = p .used i l .turn
+
+    no-point-at : (r i : ℕ) → valueIn cells count ≤ i → valueIn cells (point-row r i .field) ≡ 0
+    no-point-at zero i l = none-at (16 + 3 * i) (omega arith)
+    no-point-at (suc zero) i l = none-at (17 + 3 * i) (omega arith)
+    no-point-at (suc (suc r)) i l = ap (λ (n : ℕ). complement (fromBits n)) (none-at (18 + 3 * i) (omega arith))
+
+    pub cells-in-fields : CellsInFields cells
+    cells-in-fields =
+        in-fields (kindIn cells) (valueIn cells count) (valueIn cells) h (λ r i l. point-at r i (omega (arith, used-back))) (λ r i l. no-point-at r i (omega (arith, used-back)))
+        (refl, (refl, (refl, (refl, (refl, (refl, tt))))))

@@ -12,7 +12,7 @@ use Rattle.layout.specs.Layout.{count}
 use Rattle.layout.specs.Shapes.{zeroLatitude, zeroLongitude}
 use Rattle.cells.specs.Codes.{cellAt}
 use Rattle.code_cells.specs.Shapes.{valueIn, recordIn}
-use Rattle.limits.proofs.CellLaws.{same-cell}
+use Rattle.code_cells.proofs.CellLaws.{same-cell}
 use Rattle.composing.specs.Composing.{positions}
 use Rattle.composing.proofs.CellRecords.{point-size, point-octets}
 use Rattle.composing.proofs.StoreLaws.{more}
@@ -89,13 +89,12 @@ loop-again : tie.Need-loop-again Inv-loop μ-loop
 loop-again c =
     let l = c .before .before .before .before .before .before .before .before .before .loop in
     let a = c .before .before .before .before .before .before .before .before .before .before .before .before .before .args in
-    let x = recordIn (now (a .codes)) in
-    (
+    let x = recordIn (now (a .codes)) in (
       l .inv .0,
       search needs,
-      c .before .before .put-position .ensures 
-      ∙ (λ j. sets (l .inv .2 j) (1 + 6 * l .i) (point-octets (now (a .codes)) (l .i) (omega arith) (c .before .before .before .before .before .before .before .before .before .before .before .before .before .pre .1 .1 .1 (l .i) (omega arith)) (c .before .before .before .before .longitude-of .ensures) j))
-      ∙ more (x .latitudes) (x .longitudes) (now (a .out)) (l .i),
+      c .before .before .put-position .ensures
+          ∙ (λ j. sets (l .inv .2 j) (1 + 6 * l .i) (point-octets (now (a .codes)) (l .i) (omega arith) (c .before .before .before .before .before .before .before .before .before .before .before .before .before .pre .1 .1 .1 (l .i) (omega arith)) (c .before .before .before .before .longitude-of .ensures) j))
+          ∙ more (x .latitudes) (x .longitudes) (now (a .out)) (l .i),
       c .before .before .put-position .kept .0 ∙ l .inv .3,
     )
 
