@@ -1,3 +1,35 @@
 // The message of the record that a shape's cells say, stored as octets: document 01, "Octet layouts".
 mod messages;
 mod points;
+
+use ground::Outcome;
+use ground::Refusal;
+use layout::Kind;
+use layout::Written;
+ghost use mathlib.Core.Path.{_≡_};
+ghost use Prim.Native.Nat.{_≤_};
+ghost use lib.ListN.{length};
+ghost use Rattle.code_cells.specs.Shapes.{kindIn, rowsIn, valueIn};
+ghost use Rattle.judging.specs.Judging.{RecordAnswer};
+ghost use Rattle.composing.specs.Composing.{WritesCells};
+
+// 10, of a record that is taken.
+pub fn write_taken(out: &mut [u8], codes: &[u32], kind: Kind) -> Written
+    requires { ⌜ 61 ≤ length (now codes) ⌝ }
+    requires { ⌜ kind ≡ kindIn (now codes) ⌝ }
+    requires { ⌜ RecordAnswer (rowsIn (now codes)) (valueIn (now codes)) 0 ⌝ }
+    ensures { λ r. ⌜ WritesCells (now (codes .entry)) (now (out .entry)) (now (out .exit)) r ⌝ }
+{
+    let length = layout::message_length(kind, codes[1] as u8);
+    if out.len() < length {
+        return Written {
+            outcome: Outcome::Refused(Refusal::BufferTooShort),
+            length: 0,
+        };
+    }
+    messages::put(out, codes, kind);
+    Written {
+        outcome: Outcome::Done,
+        length,
+    }
+}

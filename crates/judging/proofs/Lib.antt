@@ -1,1 +1,1 @@
-pub mod DemandLaws
+pub mod RoomLaws
