@@ -20,3 +20,11 @@ CodesAnswerOf rows value =
 -- 4, of a polygon's count
 abbrev pub CountAnswer : ℕ → ℕ → Type 0
 CountAnswer n = Unless ((3 ≤ n) × (n ≤ 15)) 4 Else0
+
+-- what the answer 0 says of a record
+pub record Taken (rows : List Row) (value : Field → ℕ) : Type 0 where
+  pub listed : Listed rows
+  pub counted : CountSound rows value
+  pub angles : AnglesSound rows value
+  pub sure : ConfidenceSound rows value
+  pub fields : InFields rows value

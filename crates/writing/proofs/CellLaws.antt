@@ -2,17 +2,23 @@
 use Prim.Native.Nat.{ℕ, zero, suc, _+_, _-_, _*_, _≤_, _<_}
 use mathlib.Core.Path.{_≡_, refl, sym, ap, subst, _∙_}
 use mathlib.Core.Bool.{Bool, true, false}
-use mathlib.Core.List.{List, [], _∷_}
+use mathlib.Core.List.{List, [], _∷_, map}
 use native.Mathlib.Nat.{add-zero}
 use native.Mathlib.Omega.{arith}
 use lib.Dec.{ltb}
 use lib.IntN.{ℤ, pos, negsuc}
 use lib.Signed.{mag}
-use lib.ListN.{length, getD, take, List·getD-append, List·getD-eq-default}
+use lib.ListN.{length, length-map, getD, take, List·getD-append, List·getD-eq-default}
 use lib.Seq.{getD-append-add}
 use borrow.Author.Tests.{ltb-true, ltb-false, lt-ltb, le-ltb}
+use mir.Val.{Val}
+use denote.Array.{each}
+use denote.Laws.{Is}
+use denote.Shadow.{shadow}
+use denote.Struct.Declared.{row}
 use Rattle.ground.specs.declared.codes.LatitudeCode.{LatitudeCode}
 use Rattle.ground.specs.declared.codes.LongitudeCode.{LongitudeCode}
+use Rattle.ground.proofs.codes.LongitudeCode.{the-field}
 use Rattle.octets.specs.Codes.{bitOf, complement}
 use Rattle.layout.specs.declared.Written.{Written}
 use Rattle.layout.specs.declared.shapes.Kind.{Kind}
@@ -47,7 +53,7 @@ use Rattle.layout.specs.Layout.{
   typeOf,
 }
 use Rattle.layout.specs.Shapes.{kindOf, valueOf, rowsOf, zeroLatitude, zeroLongitude}
-use Rattle.trips.proofs.ShapeRecords.{Fifteen}
+use Rattle.layout.proofs.shapes.Shape.{the-type}
 use Rattle.cells.specs.Codes.{cellAt, fromBits, bitsOf}
 use Rattle.code_cells.specs.Shapes.{singleCells, pointCells, shapeCells, kindIn, rowsIn, valueIn}
 use Rattle.code_cells.proofs.PointLaws.{length-points}
@@ -98,9 +104,30 @@ no-number (suc zero) = refl
 no-number (suc (suc zero)) = refl
 no-number (suc (suc (suc r))) = refl
 
+-- ---- what a record's type says of it
+
+each-held : (xs : List LongitudeCode) (us : List Val) → shadow (each (the-field .row .Denot) (the-field .row .own) (map (the-field .into) xs) us) → (i : ℕ) → mag (getD xs i zeroLongitude .0) < 2147483648
+each-held [] us s i = omega arith
+each-held (x ∷ xs) [] s i = absurd s
+each-held (x ∷ xs) (u ∷ us) s zero = omega (arith, s .0 .1 .1 .0)
+each-held (x ∷ xs) (u ∷ us) s (suc i) = each-held xs us (s .1) i
+
+-- fifteen points, and longitudes of 32 bits
+pub record Held (x : Shape) : Type 0 where
+  pub latitudes : length (x .latitudes) ≡ 15
+  pub longitudes : length (x .longitudes) ≡ 15
+  pub turn : mag (x .longitude .0) < 2147483648
+  pub turns : (i : ℕ) → mag (getD (x .longitudes) i zeroLongitude .0) < 2147483648
+
+pub held : (x : Shape) (vs : List Val) → Is (row the-type) x vs → Held x
+held x vs g =
+    let f = g .1 .1 in
+    let l = f .1 .1 .1 .1 .1 .1 .1 .1 .1 .1 .1 .1 .1 .1 in
+    record { latitudes = simp length-map at (l .0 .1 .0 .1); longitudes = simp length-map at (l .1 .0 .1 .0 .1); turn = omega (arith, f .1 .1 .0 .1 .1 .0); turns = each-held (x .longitudes) _ (l .1 .0 .1 .1) }
+
 -- ---- the record
 
-module _ (x : Shape) (fifteen : Fifteen x) where
+module _ (x : Shape) (holds : Held x) where
   cells-at : (r i at : ℕ) → r < 3 → at ≡ 16 + (3 * i + r) → cellAt (take 61 (shapeCells x)) at ≡ getD (three (x .latitudes) (x .longitudes) i) r 0
   cells-at r i at l e = by (ltb i 15) refl
     where
@@ -113,43 +140,42 @@ module _ (x : Shape) (fifteen : Fifteen x) where
           ∙ point-cell (x .latitudes) (x .longitudes) 15 i r m l
       by false t =
           let m : 15 ≤ i = ltb-false i 15 t in
-          let p = List·getD-eq-default (x .latitudes) zeroLatitude {n = i} (omega (arith, fifteen .all-latitudes)) in
-          let q = List·getD-eq-default (x .longitudes) zeroLongitude {n = i} (omega (arith, fifteen .all-longitudes)) in
+          let p = List·getD-eq-default (x .latitudes) zeroLatitude {n = i} (omega (arith, holds .latitudes)) in
+          let q = List·getD-eq-default (x .longitudes) zeroLongitude {n = i} (omega (arith, holds .longitudes)) in
           sym (no-cell (shapeCells x) at (omega arith)) ∙ sym (no-number r) ∙ sym (λ j. getD (bitOf (p j .0) ∷ p j .1 ∷ bitsOf (q j .0) ∷ []) r 0)
 
-  module _ (turn : mag (x .longitude .0) < 2147483648) (turns : (i : ℕ) → mag (getD (x .longitudes) i zeroLongitude .0) < 2147483648) where
-    pub value-said : (f : Field) → valueIn (shapeCells x) f ≡ valueOf x f
-    value-said typeNumber = refl
-    value-said count = refl
-    value-said (south zero) = refl
-    value-said (south (suc i)) = cells-at 0 i (16 + 3 * i) (omega arith) (omega arith)
-    value-said (latitude zero) = refl
-    value-said (latitude (suc i)) = cells-at 1 i (17 + 3 * i) (omega arith) (omega arith)
-    value-said (longitude zero) = ap complement (bits-back (x .longitude .0) turn)
-    value-said (longitude (suc i)) =
-        ap (λ (n : ℕ). complement (fromBits n)) (cells-at 2 i (18 + 3 * i) (omega arith) (omega arith)) ∙ ap complement (bits-back (getD (x .longitudes) i zeroLongitude .0) (turns i))
-    value-said depth = refl
-    value-said altitude = refl
-    value-said uncertainty = refl
-    value-said semiMajor = refl
-    value-said semiMinor = refl
-    value-said orientation = refl
-    value-said altitudeUncertainty = refl
-    value-said confidence = refl
-    value-said innerRadius = refl
-    value-said offset = refl
-    value-said included = refl
-    value-said bearing = refl
-    value-said horizontalSpeed = refl
-    value-said down = refl
-    value-said verticalSpeed = refl
-    value-said speedUncertainty = refl
-    value-said verticalUncertainty = refl
+  pub value-said : (f : Field) → valueIn (shapeCells x) f ≡ valueOf x f
+  value-said typeNumber = refl
+  value-said count = refl
+  value-said (south zero) = refl
+  value-said (south (suc i)) = cells-at 0 i (16 + 3 * i) (omega arith) (omega arith)
+  value-said (latitude zero) = refl
+  value-said (latitude (suc i)) = cells-at 1 i (17 + 3 * i) (omega arith) (omega arith)
+  value-said (longitude zero) = ap complement (bits-back (x .longitude .0) (holds .turn))
+  value-said (longitude (suc i)) =
+      ap (λ (n : ℕ). complement (fromBits n)) (cells-at 2 i (18 + 3 * i) (omega arith) (omega arith)) ∙ ap complement (bits-back (getD (x .longitudes) i zeroLongitude .0) (holds .turns i))
+  value-said depth = refl
+  value-said altitude = refl
+  value-said uncertainty = refl
+  value-said semiMajor = refl
+  value-said semiMinor = refl
+  value-said orientation = refl
+  value-said altitudeUncertainty = refl
+  value-said confidence = refl
+  value-said innerRadius = refl
+  value-said offset = refl
+  value-said included = refl
+  value-said bearing = refl
+  value-said horizontalSpeed = refl
+  value-said down = refl
+  value-said verticalSpeed = refl
+  value-said speedUncertainty = refl
+  value-said verticalUncertainty = refl
 
-    module _ (some : x .kind ≡ Nothing → ⊥) where
-      rows-said : rowsIn (shapeCells x) ≡ rowsOf x
-      rows-said = ap (λ (k : Kind). shapeRows k (x .count)) (kind-said (x .kind) some)
+  module _ (some : x .kind ≡ Nothing → ⊥) where
+    rows-said : rowsIn (shapeCells x) ≡ rowsOf x
+    rows-said = ap (λ (k : Kind). shapeRows k (x .count)) (kind-said (x .kind) some)
 
-      -- what is said of the cells' numbers is said of the record's
-      pub said : (P : List Row → (Field → ℕ) → Type 0) → P (rowsIn (shapeCells x)) (valueIn (shapeCells x)) → P (rowsOf x) (valueOf x)
-      said P h = subst (P (rowsOf x)) (λ i f. value-said f i) (subst (λ (rows : List Row). P rows (valueIn (shapeCells x))) rows-said h)
+    -- what is said of the cells' numbers is said of the record's
+    pub said : (P : List Row → (Field → ℕ) → Type 0) → P (rowsIn (shapeCells x)) (valueIn (shapeCells x)) → P (rowsOf x) (valueOf x)
+    said P h = subst (P (rowsOf x)) (λ i f. value-said f i) (subst (λ (rows : List Row). P rows (valueIn (shapeCells x))) rows-said h)
