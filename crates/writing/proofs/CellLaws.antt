@@ -3,7 +3,6 @@ use Prim.Native.Nat.{ℕ, zero, suc, _+_, _-_, _*_, _≤_, _<_}
 use mathlib.Core.Path.{_≡_, refl, sym, ap, subst, _∙_}
 use mathlib.Core.Bool.{Bool, true, false}
 use mathlib.Core.List.{List, [], _∷_, map}
-use native.Mathlib.Nat.{add-zero}
 use native.Mathlib.Omega.{arith}
 use lib.Dec.{ltb}
 use lib.IntN.{ℤ, pos, negsuc}
@@ -16,6 +15,7 @@ use denote.Array.{each}
 use denote.Laws.{Is}
 use denote.Shadow.{shadow}
 use denote.Struct.Declared.{row}
+use Rattle.ground.specs.Answers.{unmet}
 use Rattle.ground.specs.declared.codes.LatitudeCode.{LatitudeCode}
 use Rattle.ground.specs.declared.codes.LongitudeCode.{LongitudeCode}
 use Rattle.ground.proofs.codes.LongitudeCode.{the-field}
@@ -52,12 +52,17 @@ use Rattle.layout.specs.Layout.{
   shapeRows,
   typeOf,
 }
-use Rattle.layout.specs.Shapes.{kindOf, valueOf, rowsOf, zeroLatitude, zeroLongitude}
+use Rattle.layout.specs.Demands.{Listed, WriteAnswer, Writes}
+use Rattle.layout.specs.Shapes.{kindOf, valueOf, rowsOf, zeroLatitude, zeroLongitude, WritesShape}
 use Rattle.layout.proofs.shapes.Shape.{the-type}
 use Rattle.cells.specs.Codes.{cellAt, fromBits, bitsOf}
 use Rattle.code_cells.specs.Shapes.{singleCells, pointCells, shapeCells, kindIn, rowsIn, valueIn}
 use Rattle.code_cells.proofs.PointLaws.{length-points}
 use Rattle.code_cells.proofs.CellLaws.{same-cell, no-cell}
+use Rattle.judging.specs.Judging.{RecordAnswer}
+use Rattle.judging.proofs.RoomLaws.{roomy}
+use Rattle.composing.specs.Composing.{WritesCells}
+use Rattle.writing.specs.Writing.{ShapeAnswer}
 
 -- a number of 32 bits with a sign, from its bits
 bits-back : (z : ℤ) → mag z < 2147483648 → fromBits (bitsOf z) ≡ z
@@ -75,6 +80,10 @@ kind-said Polygon h = refl
 kind-said AltitudePoint h = refl
 kind-said AltitudeEllipsoid h = refl
 kind-said Arc h = refl
+
+-- a record of no kind is answered with 2
+pub no-kind : (x : Shape) → x .kind ≡ Nothing → (room : ℕ) → WriteAnswer (rowsOf x) (valueOf x) room 2
+no-kind x e room = unmet (λ l. absurd (omega (arith, subst (λ (k : Kind). Listed (shapeRows k (x .count))) e l))) refl
 
 -- ---- the cells of points
 
@@ -177,5 +186,11 @@ module _ (x : Shape) (holds : Held x) where
     rows-said = ap (λ (k : Kind). shapeRows k (x .count)) (kind-said (x .kind) some)
 
     -- what is said of the cells' numbers is said of the record's
-    pub said : (P : List Row → (Field → ℕ) → Type 0) → P (rowsIn (shapeCells x)) (valueIn (shapeCells x)) → P (rowsOf x) (valueOf x)
+    said : (P : List Row → (Field → ℕ) → Type 0) → P (rowsIn (shapeCells x)) (valueIn (shapeCells x)) → P (rowsOf x) (valueOf x)
     said P h = subst (P (rowsOf x)) (λ i f. value-said f i) (subst (λ (rows : List Row). P rows (valueIn (shapeCells x))) rows-said h)
+
+    pub writes-said : {before after : List ℕ} {w : Written} → WritesCells (shapeCells x) before after w → WritesShape x before after w
+    writes-said {before} {after} {w} = said (λ rows value. Writes rows value before after w)
+
+    pub answer-said : {m : ℕ} → RecordAnswer (rowsIn (shapeCells x)) (valueIn (shapeCells x)) m → ShapeAnswer x m
+    answer-said {m} h = roomy m (said (λ rows value. RecordAnswer rows value m) h)

@@ -1,34 +1,36 @@
+-- The cells of a record say the record, so that what is answered to them is answered to it.
+use mathlib.Core.Path.{_≡_, sym}
+use mathlib.Core.List.{[], _∷_}
 use borrow.Author.Needs.{needs}
+use native.Mathlib.Omega.{arith}
+use types.Run.{miss}
+use Rattle.layout.specs.declared.shapes.Kind.the-variants.{Nothing}
+use Rattle.writing.proofs.CellLaws.{no-kind, kind-said, held, answer-said}
 use Rattle.writing.proofs.shape_outcome.Statement.{statement}
 use Rattle.writing.proofs.shape_outcome.Tie as tie
-use Rattle.writing.proofs.shape_outcome.Reads as reads
-use Rattle.writing.proofs.shape_outcome.Lts as lts
-use Rattle.code_cells.proofs.cells_of.Reads as cells-of-reads
-use Rattle.judging.proofs.outcome.Reads as outcome-reads
 
--- src/lib.rt:32:33
 enum-told : tie.Need-enum-told
 enum-told c = search needs
 
--- src/lib.rt:32:9
 returns : tie.Need-returns
-returns c = ?
+returns c = no-kind (c .before .before .args .shape) (c .enum-told .given .1) _
 
--- src/lib.rt:34:17
 cells-of-requires : tie.Need-cells-of-requires
 cells-of-requires c κs = search needs
 
--- src/lib.rt:35:22
 slice-aggregate-outcome : tie.Need-slice-aggregate-outcome
 slice-aggregate-outcome c = search needs
 
--- src/lib.rt:35:5
-outcome-requires : tie.Need-outcome-requires
-outcome-requires c κs = ?
+some : (c : tie.At-match-keys2) → c .before .args .shape .kind ≡ Nothing → ⊥
+some c e = miss (1 ∷ 2 ∷ 3 ∷ 4 ∷ 5 ∷ 6 ∷ 7 ∷ []) 0 tt (rw e at (c .match .keys2))
 
--- src/lib.rt:27:1
+outcome-requires : tie.Need-outcome-requires
+outcome-requires c κs = rw (c .before .cells-of .ensures) (omega arith, sym (kind-said (c .before .before .before .args .shape .kind) (some (c .before .before))))
+
 returns-2 : tie.Need-returns-2
-returns-2 c = ?
+returns-2 c =
+    let x = c .before .before .before .before .args .shape in
+    answer-said x (held x _ (c .before .before .before .before .good .0)) (some (c .before .before .before)) (rw (c .before .before .cells-of .ensures) at (c .outcome .ensures))
 
 pub shape-outcome-spec : {M : Type 1} → statement M
 shape-outcome-spec =

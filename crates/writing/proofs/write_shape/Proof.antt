@@ -1,38 +1,39 @@
+-- The cells of a record say the record, so that what is written of them is written of it.
+use mathlib.Core.Path.{_≡_, refl}
+use mathlib.Core.List.{[], _∷_}
 use borrow.Author.Needs.{needs}
+use native.Mathlib.Omega.{arith}
+use types.Run.{miss}
+use Rattle.layout.specs.declared.shapes.Kind.the-variants.{Nothing}
+use Rattle.writing.proofs.CellLaws.{no-kind, held, writes-said}
 use Rattle.writing.proofs.write_shape.Statement.{statement}
 use Rattle.writing.proofs.write_shape.Tie as tie
-use Rattle.writing.proofs.write_shape.Reads as reads
-use Rattle.writing.proofs.write_shape.Lts as lts
-use Rattle.code_cells.proofs.cells_of.Reads as cells-of-reads
-use Rattle.composing.proofs.write.Reads as write-reads
 
--- src/lib.rt:18:39
 enum-told : tie.Need-enum-told
 enum-told c = search needs
 
--- src/lib.rt:17:9
 returns : tie.Need-returns
-returns c = ?
+returns c = record { answer = no-kind (c .before .before .before .args .shape) (c .enum-told .given .1) _; written = refl; buffer = refl }
 
--- src/lib.rt:22:17
 cells-of-requires : tie.Need-cells-of-requires
 cells-of-requires c κs = search needs
 
--- src/lib.rt:23:27
 slice-aggregate-write : tie.Need-slice-aggregate-write
 slice-aggregate-write c = search needs
 
--- src/lib.rt:23:5
 write-requires : tie.Need-write-requires
-write-requires c κs = ?
+write-requires c κs = rw (c .before .before .cells-of .ensures) (omega arith)
 
--- src/lib.rt:12:1
 same-length : tie.Need-same-length
 same-length c = search needs
 
--- src/lib.rt:12:1
+some : (c : tie.At-match-keys2) → c .before .before .args .shape .kind ≡ Nothing → ⊥
+some c e = miss (1 ∷ 2 ∷ 3 ∷ 4 ∷ 5 ∷ 6 ∷ 7 ∷ []) 0 tt (rw e at (c .match .keys2))
+
 returns-2 : tie.Need-returns-2
-returns-2 c = ?
+returns-2 c =
+    let x = c .before .before .before .before .before .before .before .before .args .shape in
+    writes-said x (held x _ (c .before .before .before .before .before .before .before .before .good .1 .0)) (some (c .before .before .before .before .before .before)) (rw (c .before .before .before .before .before .cells-of .ensures) at (c .before .before .write .ensures))
 
 pub write-shape-spec : {M : Type 1} → statement M
 write-shape-spec =
