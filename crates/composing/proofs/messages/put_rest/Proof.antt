@@ -5,9 +5,8 @@ use mathlib.Core.List.{List, [], _∷_}
 use native.Mathlib.Omega.{arith}
 use lib.ListN.{set, length-set}
 use lib.Seq.{sets}
-use Rattle.layout.specs.Layout.{altitude}
-use Rattle.writing.proofs.messages.put_rest.Statement.{statement}
-use Rattle.writing.proofs.messages.put_rest.Tie as tie
+use Rattle.composing.proofs.messages.put_rest.Statement.{statement}
+use Rattle.composing.proofs.messages.put_rest.Tie as tie
 
 enum-told : tie.Need-enum-told
 enum-told c = c .match .keys1
@@ -19,13 +18,13 @@ enum-told-3 : tie.Need-enum-told-3
 enum-told-3 c = c .match .keys3
 
 slice-write-out : tie.Need-slice-write-out
-slice-write-out c = omega (arith, rw (c .enum-told3 .given .1) at (c .before .before .before .before .pre .1))
+slice-write-out c = omega (arith, rw (c .enum-told3 .given .1) at (c .before .before .before .before .pre .fits))
 
 enum-told-4 : tie.Need-enum-told-4
 enum-told-4 c = c .match .keys4
 
 put-four-requires : tie.Need-put-four-requires
-put-four-requires c κs = omega (arith, rw (c .before .enum-told4 .given .1) at (c .before .before .before .before .before .pre .1))
+put-four-requires c κs = omega (arith, rw (c .before .enum-told4 .given .1) at (c .before .before .before .before .before .pre .fits))
 
 enum-told-5 : tie.Need-enum-told-5
 enum-told-5 c = c .match .keys5
@@ -34,28 +33,28 @@ enum-told-6 : tie.Need-enum-told-6
 enum-told-6 c = c .match .keys6
 
 put-altitude-requires : tie.Need-put-altitude-requires
-put-altitude-requires c κs = (omega (arith, rw (c .before .enum-told6 .given .1) at (c .before .before .before .before .before .pre .1)), rw (c .before .enum-told6 .given .1) at (c .before .before .before .before .before .pre .0 .each altitude))
+put-altitude-requires c κs = (omega (arith, rw (c .before .enum-told6 .given .1) at (c .before .before .before .before .before .pre .fits)), c .before .before .before .before .before .pre .level)
 
 enum-told-7 : tie.Need-enum-told-7
 enum-told-7 c = c .match .keys7
 
 put-altitude-requires-2 : tie.Need-put-altitude-requires-2
-put-altitude-requires-2 c κs = (omega (arith, rw (c .before .enum-told7 .given .1) at (c .before .before .before .before .before .pre .1)), rw (c .before .enum-told7 .given .1) at (c .before .before .before .before .before .pre .0 .each altitude))
+put-altitude-requires-2 c κs = (omega (arith, rw (c .before .enum-told7 .given .1) at (c .before .before .before .before .before .pre .fits)), c .before .before .before .before .before .pre .level)
 
 put-four-requires-2 : tie.Need-put-four-requires-2
-put-four-requires-2 c κs = omega (arith, rw (c .before .before .before .before .before .enum-told7 .given .1) at (c .before .before .before .before .before .before .before .before .before .pre .1), c .before .before .before .put-altitude2 .kept .0)
+put-four-requires-2 c κs = omega (arith, rw (c .before .before .before .before .before .enum-told7 .given .1) at (c .before .before .before .before .before .before .before .before .before .pre .fits), c .before .before .before .put-altitude2 .kept .0)
 
 slice-write-out-2 : tie.Need-slice-write-out-2
-slice-write-out-2 c = omega (arith, rw (c .before .before .before .before .before .before .before .before .enum-told7 .given .1) at (c .before .before .before .before .before .before .before .before .before .before .before .before .pre .1), c .before .before .before .before .before .before .put-altitude2 .kept .0, c .before .before .put-four2 .kept .0)
+slice-write-out-2 c = omega (arith, rw (c .before .before .before .before .before .before .before .before .enum-told7 .given .1) at (c .before .before .before .before .before .before .before .before .before .before .before .before .pre .fits), c .before .before .before .before .before .before .put-altitude2 .kept .0, c .before .before .put-four2 .kept .0)
 
 enum-told-8 : tie.Need-enum-told-8
 enum-told-8 c = c .match .keys8
 
 put-word-requires : tie.Need-put-word-requires
-put-word-requires c κs = omega (arith, rw (c .before .enum-told8 .given .1) at (c .before .before .before .before .before .pre .1))
+put-word-requires c κs = omega (arith, rw (c .before .enum-told8 .given .1) at (c .before .before .before .before .before .pre .fits))
 
 put-four-requires-3 : tie.Need-put-four-requires-3
-put-four-requires-3 c κs = omega (arith, rw (c .before .before .before .before .before .enum-told8 .given .1) at (c .before .before .before .before .before .before .before .before .before .pre .1), c .before .before .before .put-word .kept .0)
+put-four-requires-3 c κs = omega (arith, rw (c .before .before .before .before .before .enum-told8 .given .1) at (c .before .before .before .before .before .before .before .before .before .pre .fits), c .before .before .before .put-word .kept .0)
 
 returns : tie.Need-returns
 returns c = rw (c .enum-told .given .1)

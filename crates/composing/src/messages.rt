@@ -6,36 +6,35 @@ ghost use mathlib.Core.Path.{_≡_};
 ghost use Prim.Native.Nat.{_≤_};
 ghost use lib.ListN.{length};
 ghost use lib.Seq.{sets};
-ghost use Rattle.layout.specs.Rows.{lengthOf};
-ghost use Rattle.layout.specs.Shapes.{rowsOf};
-ghost use Rattle.limits.specs.Limits.{ShapeInFields};
-ghost use Rattle.writing.specs.Storing.{Storable, stored, restOf};
+ghost use Rattle.layout.specs.Demands.{InFields};
+ghost use Rattle.code_cells.specs.Shapes.{kindIn, rowsIn, valueIn, recordIn};
+ghost use Rattle.composing.specs.Composing.{Storable, stored, restOf, RestFits};
 
 // Stores the message.
-pub fn put(out: &mut [u8], shape: Shape)
-    requires { ⌜ Storable shape (length (now out)) ⌝ }
-    ensures { λ _. ⌜ now (out .exit) ≡ stored shape (now (out .entry)) ⌝ }
+pub fn put(out: &mut [u8], codes: &[u32], kind: Kind)
+    requires { ⌜ 61 ≤ length (now codes) ⌝ }
+    requires { ⌜ kind ≡ kindIn (now codes) ⌝ }
+    requires { ⌜ InFields (rowsIn (now codes)) (valueIn (now codes)) ⌝ }
+    requires { ⌜ Storable (recordIn (now codes)) (length (now out)) ⌝ }
+    ensures { λ _. ⌜ now (out .exit) ≡ stored (recordIn (now (codes .entry))) (now (out .entry)) ⌝ }
 {
-    let kind = shape.kind;
     let first = layout::first_octet(kind);
     if let Kind::Polygon = kind {
-        let latitudes = shape.latitudes;
-        let longitudes = shape.longitudes;
-        out[0] = first + shape.count;
-        points::put(out, latitudes, longitudes, shape.count);
+        out[0] = first + codes[1] as u8;
+        points::put(out, codes);
         return;
     }
-    let latitude = shape.latitude;
-    let longitude = shape.longitude;
+    let outline = code_cells::outline_in(codes, kind);
+    let latitude = outline.latitude;
+    let longitude = outline.longitude;
     out[0] = first;
     storing::put_position(out, 1, latitude, longitude);
-    put_rest(out, shape);
+    put_rest(out, outline);
 }
 
 // Stores the octets after a position.
 fn put_rest(out: &mut [u8], shape: Shape)
-    requires { ⌜ ShapeInFields shape ⌝ }
-    requires { ⌜ lengthOf (rowsOf shape) ≤ length (now out) ⌝ }
+    requires { ⌜ RestFits shape (length (now out)) ⌝ }
     ensures { λ _. ⌜ now (out .exit) ≡ sets (now (out .entry)) 7 (restOf shape) ⌝ }
 {
     let kind = shape.kind;

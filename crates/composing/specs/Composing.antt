@@ -1,17 +1,24 @@
 -- The octets that the parts of the writer store. Assumes nothing.
 use mathlib.Core.List.{List, [], _∷_, _++_}
-use Prim.Native.Nat.{ℕ, zero, suc, _≤_}
+use Prim.Native.Nat.{ℕ, zero, suc, _≤_, _<_}
 use lib.ListN.{getD, drop}
 use Rattle.ground.specs.declared.codes.LatitudeCode.{LatitudeCode}
 use Rattle.ground.specs.declared.codes.LongitudeCode.{LongitudeCode}
 use Rattle.octets.specs.Bits.{octets}
 use Rattle.octets.specs.Codes.{position, level}
+use Rattle.layout.specs.declared.Written.{Written}
 use Rattle.layout.specs.declared.shapes.Kind.{Kind}
 use Rattle.layout.specs.declared.shapes.Kind.the-variants.{Nothing, Point, Circle, Ellipse, Polygon, AltitudePoint, AltitudeEllipsoid, Arc}
 use Rattle.layout.specs.declared.shapes.Shape.{Shape}
+use Rattle.layout.specs.Layout.{shapeRows}
 use Rattle.layout.specs.Rows.{lengthOf, message}
-use Rattle.layout.specs.Demands.{Listed, CountSound, InFields}
+use Rattle.layout.specs.Demands.{Listed, CountSound, InFields, Writes}
 use Rattle.layout.specs.Shapes.{rowsOf, valueOf, zeroLatitude, zeroLongitude}
+use Rattle.code_cells.specs.Shapes.{rowsIn, valueIn}
+
+-- the record that cells say is written
+abbrev pub WritesCells : List ℕ → List ℕ → List ℕ → Written → Type 0
+WritesCells cells = Writes (rowsIn cells) (valueIn cells)
 
 -- the octets of the first n of these points
 abbrev pub positions : List LatitudeCode → List LongitudeCode → ℕ → List ℕ
@@ -33,6 +40,11 @@ rest Arc x = octets 2 (x .«inner_radius» .0) ++ (x .uncertainty .0 ∷ x .offs
 
 abbrev pub restOf : Shape → List ℕ
 restOf x = rest (x .kind) x
+
+-- they have room, and an altitude is within its field
+pub record RestFits (x : Shape) (room : ℕ) : Type 0 where
+  pub fits : lengthOf (shapeRows (x .kind) 0) ≤ room
+  pub level : x .altitude .1 < 32768
 
 -- a record whose message can be stored in so much room
 pub record Storable (x : Shape) (room : ℕ) : Type 0 where

@@ -7,7 +7,6 @@ use native.Mathlib.Nat.{zero-add, add-zero}
 use native.Mathlib.Numerals.{add-one}
 use lib.ListN.{length, length-append, set, drop, getD}
 use lib.Seq.{sets, sets-eq}
-use borrow.Author.Tests.{lt-ltb}
 use Rattle.ground.specs.declared.codes.LatitudeCode.{LatitudeCode}
 use Rattle.ground.specs.declared.codes.LongitudeCode.{LongitudeCode}
 use Rattle.ground.proofs.ListLaws.{sets-append}
@@ -43,8 +42,8 @@ use Rattle.layout.proofs.KindLaws.{type-small}
 use Rattle.layout.proofs.PolygonLaws.{polygon-length}
 use Rattle.layout.proofs.MessageLaws.{Position, positionOctets, pointOctets, point-message, circle-message, ellipse-message, altitude-point-message, ellipsoid-message, arc-message, polygon-message}
 use Rattle.octets.specs.Codes.{position}
-use Rattle.writing.specs.Storing.{positions, rest, Storable}
 use Rattle.limits.proofs.LimitLaws.{points-within}
+use Rattle.composing.specs.Composing.{positions, rest, Storable}
 
 -- ---- runs of stores
 
@@ -135,9 +134,7 @@ module _ (x : Shape) where
         where
           each-point : (j : ℕ) → 0 < j → j ≤ x .count → Position (valueOf x) j
           each-point zero a b = absurd (omega arith)
-          each-point (suc i) a b =
-              let p = rw (lt-ltb i (x .count) b) at (points-within x (s .fields) i) in
-              record { sign = p .sign; size = p .size; turn = p .turn }
+          each-point (suc i) a b = points-within Polygon (x .count) (valueOf x) fields i b
 
       pub count-most : x .count ≤ 15
       count-most = subst (λ (k : Kind). CountSound (shapeRows k (x .count)) (valueOf x)) e (s .counted) .most (omega arith)
