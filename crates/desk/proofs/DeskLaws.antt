@@ -41,7 +41,9 @@ use Rattle.records.specs.Kinds.{FormAnswer}
 use Rattle.velocities.proofs.DemandLaws.{no-count}
 use Rattle.alike.proofs.ShapeLaws.{held-answer, held-record}
 use Rattle.alike.proofs.VelocityLaws.{held-velocity-answer, held-velocity-record}
-use Rattle.desk.specs.Promises.{WritesTold, ReportsShapeIn, ReportsVelocityIn, CodeCellsAnswer, CodesShapeIn, CodesVelocityIn, KindAnswer}
+use Rattle.cells.proofs.PutLaws.{puts-by}
+use Rattle.cell_reading.specs.Reading.{ReadsInto}
+use Rattle.desk.specs.Promises.{ReadsShapeInto, WritesTold, ReportsShapeIn, ReportsVelocityIn, CodeCellsAnswer, CodesShapeIn, CodesVelocityIn, KindAnswer}
 
 -- ---- no longer than the room
 
@@ -69,6 +71,11 @@ chosen-short (writes i c b l) = l
 
 pub chosen-within : {q : Request} {taken : Kind → Type 0} {before after : List ℕ} (w : Written) → Chooses q taken before after w → w .length ≤ length before
 chosen-within w p = chosen-short p
+
+-- ---- what is put, and the number that is handed back
+
+pub read-told : {s before after : List ℕ} {left : Outcome} {n : ℤ} → ReadsInto s before after left → n ≡ answerOf left 61 → ReadsShapeInto s before after n
+read-told r e = record { read = r .read; promise = r .promise; put = puts-by {outcome = r .read .outcome} (r .roomed) e (r .array) }
 
 -- ---- 7, after what comes before it
 

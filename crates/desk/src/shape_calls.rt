@@ -23,9 +23,8 @@ const QUANTITIES: usize = 44;
 pub extern "C" fn gad_read_shape(codes: &mut [u32], message: &[u8]) -> i64
     ensures { λ r. ⌜ ReadsShapeInto (now (message .entry)) (now (codes .entry)) (now (codes .exit)) r ⌝ }
 {
-    let read = reading::read_shape(message);
-    let outcome = read.outcome;
-    put_codes(codes, outcome, read.shape).0
+    let outcome = cell_reading::read(codes, message);
+    cells::answer(outcome, CODES).0
 }
 
 // Codes to octets.
@@ -36,12 +35,7 @@ pub extern "C" fn gad_write_shape(out: &mut [u8], codes: &[u32]) -> i64
     if codes.len() < CODES {
         return cells::answer(Outcome::Refused(Refusal::WrongLength), 0).0;
     }
-    let shape = code_cells::shape_in(codes);
-    if !code_cells::shape_is_whole(codes) {
-        let outcome = cells::else_out_of_range(writing::shape_outcome(shape));
-        return cells::answer(outcome, 0).0;
-    }
-    let written = writing::write_shape(out, shape);
+    let written = composing::write(out, codes);
     let outcome = written.outcome;
     cells::answer(outcome, written.length).0
 }

@@ -1,21 +1,22 @@
--- What the inner function hands back is put: it has no points after its last. Assumes nothing.
-use Rattle.desk.proofs.EndLaws.{read-puttable}
+-- What is put into the cells, and its number.
+use mir.Syntax.{w64}
+use mir.Facts.{toZ-ofZ}
+use Rattle.desk.proofs.DeskLaws.{read-told}
 use borrow.Author.Needs.{needs}
 use Rattle.desk.proofs.shape_calls.gad_read_shape.Statement.{statement}
 use Rattle.desk.proofs.shape_calls.gad_read_shape.Tie as tie
 
-read-shape-requires : tie.Need-read-shape-requires
-read-shape-requires c κs = search needs
+read-requires : tie.Need-read-requires
+read-requires c κs = search needs
 
-put-codes-requires : tie.Need-put-codes-requires
-put-codes-requires c κs = read-puttable _ _ (c .before .read-shape .ensures)
+answer-requires : tie.Need-answer-requires
+answer-requires c κs = search needs
 
 same-length : tie.Need-same-length
 same-length c = search needs
 
 returns : tie.Need-returns
-returns c = search needs
+returns c = rw (toZ-ofZ {w = w64} {z = c@answer .result .0} (search needs)) (read-told (c@read .ensures) (c@answer .ensures))
 
 pub gad-read-shape-spec : {M : Type 1} → statement M
-gad-read-shape-spec =
-    tie.close (tie.spec read-shape-requires put-codes-requires same-length returns)
+gad-read-shape-spec = tie.close (tie.spec read-requires answer-requires same-length returns)
