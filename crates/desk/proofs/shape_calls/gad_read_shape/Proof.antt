@@ -16,7 +16,7 @@ same-length : tie.Need-same-length
 same-length c = search needs
 
 returns : tie.Need-returns
-returns c = rw (toZ-ofZ {w = w64} {z = c@answer .result .0} (search needs)) (read-told (c@read .ensures) (c@answer .ensures))
+returns c = rw (toZ-ofZ {w = w64} {z = c .before .answer .result .0} (search needs)) (read-told (c .before .before .before .before .read .ensures) (c .before .answer .ensures))
 
 pub gad-read-shape-spec : {M : Type 1} → statement M
 gad-read-shape-spec = tie.close (tie.spec read-requires answer-requires same-length returns)

@@ -15,21 +15,21 @@ answer-requires : tie.Need-answer-requires
 answer-requires c κs = search needs
 
 returns : tie.Need-returns
-returns c = rw (toZ-ofZ {w = w64} {z = c@answer .result .0} (search needs)) (too-short (omega arith) (c@answer .ensures) refl)
+returns c = rw (toZ-ofZ {w = w64} {z = c .before .answer .result .0} (search needs)) (too-short (omega arith) (c .before .answer .ensures) refl)
 
 write-requires : tie.Need-write-requires
 write-requires c κs = search needs
 
 answer-requires-2 : tie.Need-answer-requires-2
-answer-requires-2 c κs = omega (arith, written-within (c@write .ensures))
+answer-requires-2 c κs = omega (arith, written-within (c .before .before .write .ensures))
 
 same-length : tie.Need-same-length
 same-length c = search needs
 
 returns-2 : tie.Need-returns-2
 returns-2 c =
-    let long : 61 ≤ length (c@start .args .codes .now) = omega arith in
-    rw (toZ-ofZ {w = w64} {z = c@answer2 .result .0} (search needs)) (long-enough long (record { written = c@write .result; promise = c@write .ensures; told = c@answer2 .ensures }))
+    let long : 61 ≤ length (c .before .before .before .before .before .before .before .before .before .args .codes .now) = omega arith in
+    rw (toZ-ofZ {w = w64} {z = c .before .answer2 .result .0} (search needs)) (long-enough long (record { written = c .before .before .before .before .write .result; promise = c .before .before .before .before .write .ensures; told = c .before .answer2 .ensures }))
 
 pub gad-write-shape-spec : {M : Type 1} → statement M
 gad-write-shape-spec =
