@@ -10,7 +10,7 @@ use Rattle.octets.specs.Codes.{signOf, complement, position}
 use Rattle.octets.proofs.ComplementLaws.{complement-again}
 use Rattle.layout.specs.Layout.{Field, typeNumber, count, south, latitude, longitude}
 use Rattle.layout.specs.Demands.{Listed, InFields}
-use Rattle.layout.specs.Shapes.{valueOf, latitudeOf, longitudeOf, zeroLatitude, zeroLongitude}
+use Rattle.layout.specs.Shapes.{rowsOf, valueOf, latitudeOf, longitudeOf, zeroLatitude, zeroLongitude}
 use Rattle.trips.proofs.ShapeRecords.{at-upto, values-of}
 use Rattle.trips.proofs.ShapeTrips.{type-back}
 use Rattle.cells.specs.Codes.{cellAt, fromBits}
@@ -54,6 +54,9 @@ module _ (cells : List ℕ) where
         rw (a, o, complement-again (valueIn cells (longitude (suc i))) (within .turn), e, sign, size, turn)
 
   -- ---- the record
+
+  pub record-rows : rowsOf (recordIn cells) ≡ rowsIn cells
+  record-rows = refl
 
   module _ (listed : Listed (rowsIn cells)) (fields : InFields (rowsIn cells) (valueIn cells)) where
     pub record-values : (f : Field) → valueOf (recordIn cells) f ≡ valueIn cells f

@@ -9,7 +9,7 @@ use Rattle.octets.specs.Codes.{position}
 use Rattle.layout.specs.declared.shapes.Kind.{Kind}
 use Rattle.layout.specs.declared.shapes.Kind.the-variants.{Nothing, Point, Circle, Ellipse, Polygon, AltitudePoint, AltitudeEllipsoid, Arc}
 use Rattle.layout.specs.declared.shapes.Shape.{Shape}
-use Rattle.layout.specs.Layout.{Field, count, altitude, shapeRows, typeOf}
+use Rattle.layout.specs.Layout.{count, altitude, shapeRows, typeOf}
 use Rattle.layout.specs.Rows.{lengthOf, message}
 use Rattle.layout.specs.Demands.{Listed, CountSound, InFields}
 use Rattle.layout.specs.Shapes.{rowsOf, valueOf}

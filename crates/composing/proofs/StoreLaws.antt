@@ -1,11 +1,11 @@
 -- A message stored part after part. Assumes nothing.
 use Prim.Native.Nat.{ℕ, zero, suc, _+_, _*_, _≤_, _<_}
 use mathlib.Core.Path.{_≡_, refl, sym, ap, subst, _∙_}
-use mathlib.Core.List.{List, [], _∷_, _++_}
+use mathlib.Core.List.{List, _∷_, _++_}
 use native.Mathlib.Omega.{arith}
 use native.Mathlib.Nat.{zero-add, add-zero}
 use native.Mathlib.Numerals.{add-one}
-use lib.ListN.{length, length-append, set, drop, getD}
+use lib.ListN.{length, length-append, drop, getD}
 use lib.Seq.{sets, sets-eq}
 use Rattle.ground.specs.declared.codes.LatitudeCode.{LatitudeCode}
 use Rattle.ground.specs.declared.codes.LongitudeCode.{LongitudeCode}
@@ -35,7 +35,7 @@ use Rattle.layout.specs.Layout.{
   typeOf,
 }
 use Rattle.layout.specs.Rows.{lengthOf, message}
-use Rattle.layout.specs.Demands.{Listed, CountSound, InFields}
+use Rattle.layout.specs.Demands.{Listed, InFields}
 use Rattle.layout.specs.Shapes.{rowsOf, valueOf, zeroLatitude, zeroLongitude}
 use Rattle.layout.proofs.TidyLaws.{message-length}
 use Rattle.layout.proofs.KindLaws.{type-small}
@@ -135,9 +135,6 @@ module _ (x : Shape) where
           each-point : (j : ℕ) → 0 < j → j ≤ x .count → Position (valueOf x) j
           each-point zero a b = absurd (omega arith)
           each-point (suc i) a b = points-within Polygon (x .count) (valueOf x) fields i b
-
-      pub count-most : x .count ≤ 15
-      count-most = subst (λ (k : Kind). CountSound (shapeRows k (x .count)) (valueOf x)) e (s .counted) .most (omega arith)
 
       pub polygon-room : 1 + 6 * x .count ≤ room
       polygon-room = rw polygon-length at (subst (λ (k : Kind). lengthOf (shapeRows k (x .count)) ≤ room) e (s .fits))

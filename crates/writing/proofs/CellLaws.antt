@@ -56,7 +56,7 @@ use Rattle.layout.specs.Demands.{Listed, WriteAnswer, Writes}
 use Rattle.layout.specs.Shapes.{kindOf, valueOf, rowsOf, zeroLatitude, zeroLongitude, WritesShape}
 use Rattle.layout.proofs.shapes.Shape.{the-type}
 use Rattle.cells.specs.Codes.{cellAt, fromBits, bitsOf}
-use Rattle.code_cells.specs.Shapes.{singleCells, pointCells, shapeCells, kindIn, rowsIn, valueIn}
+use Rattle.code_cells.specs.Shapes.{singleCells, pointCells, shapeCells, rowsIn, valueIn}
 use Rattle.code_cells.proofs.PointLaws.{length-points}
 use Rattle.code_cells.proofs.CellLaws.{same-cell, no-cell}
 use Rattle.judging.specs.Judging.{RecordAnswer}

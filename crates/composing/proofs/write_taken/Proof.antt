@@ -5,7 +5,7 @@ use native.Mathlib.Omega.{arith}
 use denote.Ref.{now}
 use Rattle.layout.specs.Layout.{shapeRows}
 use Rattle.layout.specs.Rows.{lengthOf}
-use Rattle.code_cells.specs.Shapes.{rowsIn, valueIn}
+use Rattle.code_cells.specs.Shapes.{rowsIn}
 use Rattle.judging.proofs.RoomLaws.{taken, with-room, no-room}
 use Rattle.composing.proofs.CellStores.{count-small, storable, message-stored}
 use Rattle.composing.proofs.write_taken.Statement.{statement}

@@ -1,5 +1,5 @@
 -- A polygon's points, or a position and what follows it, after the first octet.
-use Prim.Native.Nat.{ℕ, _*_, _<_}
+use Prim.Native.Nat.{ℕ, _*_}
 use mathlib.Core.Path.{_≡_, sym, ap, _∙_}
 use mathlib.Core.List.{List, [], _∷_}
 use borrow.Author.Needs.{needs}
@@ -11,7 +11,6 @@ use types.Run.{miss}
 use Rattle.layout.specs.declared.shapes.Kind.{Kind}
 use Rattle.layout.specs.declared.shapes.Kind.the-variants.{Polygon}
 use Rattle.layout.specs.Layout.{typeOf}
-use Rattle.cells.specs.Codes.{cellAt}
 use Rattle.code_cells.specs.Shapes.{kindIn, recordIn}
 use Rattle.composing.specs.Composing.{restOf}
 use Rattle.composing.proofs.StoreLaws.{start-within, start-room, polygon-room}

@@ -1,15 +1,12 @@
 -- Six octets more at each turn, from the three cells of a point.
-use Prim.Native.Nat.{ℕ, _+_, _-_, _*_, _≤_}
-use mathlib.Core.Path.{_≡_, refl, ap, _∙_}
-use mathlib.Core.List.{List}
+use Prim.Native.Nat.{_+_, _-_, _*_, _≤_}
+use mathlib.Core.Path.{_≡_, refl, _∙_}
 use borrow.Author.Needs.{needs}
 use native.Mathlib.Omega.{arith}
-use lib.ListN.{length, getD}
+use lib.ListN.{length}
 use lib.Seq.{sets}
 use denote.Ref.{now}
-use Rattle.octets.specs.Codes.{position}
 use Rattle.layout.specs.Layout.{count}
-use Rattle.layout.specs.Shapes.{zeroLatitude, zeroLongitude}
 use Rattle.cells.specs.Codes.{cellAt}
 use Rattle.code_cells.specs.Shapes.{valueIn, recordIn}
 use Rattle.code_cells.proofs.CellLaws.{same-cell}
