@@ -2,11 +2,12 @@
 use mathlib.Core.Path.{_≡_}
 use mathlib.Core.List.{List, [], _∷_, _++_}
 use Prim.Native.Nat.{ℕ, zero, suc, _+_, _*_, _≤_, _<_}
-use lib.ListN.{getD, take}
+use lib.ListN.{getD, take, replicate}
 use lib.Dec.{eqb}
 use Rattle.ground.specs.declared.codes.LatitudeCode.{LatitudeCode}
 use Rattle.ground.specs.declared.codes.LongitudeCode.{LongitudeCode}
-use Rattle.octets.specs.Codes.{bitOf, complement}
+use Rattle.octets.specs.Codes.{bitOf, signOf, complement}
+use Rattle.layout.specs.declared.shapes.Kind.{Kind}
 use Rattle.layout.specs.declared.shapes.Shape.{Shape}
 use Rattle.layout.specs.Layout.{
   Field,
@@ -36,7 +37,7 @@ use Rattle.layout.specs.Layout.{
   shapeRows,
   typeOf,
 }
-use Rattle.layout.specs.Shapes.{kindOf, upto, shapeOf, zeroLatitude, zeroLongitude}
+use Rattle.layout.specs.Shapes.{kindOf, upto, latitudeOf, longitudeOf, shapeOf, zeroLatitude, zeroLongitude}
 use Rattle.cells.specs.Codes.{cellAt, capped, fromBits, bitsOf}
 
 -- ---- THE LAYOUT
@@ -118,12 +119,36 @@ valueIn cells verticalSpeed = 0
 valueIn cells speedUncertainty = 0
 valueIn cells verticalUncertainty = 0
 
+abbrev pub kindIn : List ℕ → Kind
+kindIn cells = kindOf (valueIn cells typeNumber)
+
 abbrev pub rowsIn : List ℕ → List Row
-rowsIn cells = shapeRows (kindOf (valueIn cells typeNumber)) (valueIn cells count)
+rowsIn cells = shapeRows (kindIn cells) (valueIn cells count)
 
 -- the record, where each number is within its field
 abbrev pub recordIn : List ℕ → Shape
-recordIn cells = shapeOf (kindOf (valueIn cells typeNumber)) (valueIn cells)
+recordIn cells = shapeOf (kindIn cells) (valueIn cells)
+
+-- its outline: the record but for its points
+abbrev pub outlineIn : List ℕ → Shape
+outlineIn cells = record {
+  kind = kindIn cells;
+  latitude = latitudeOf (valueIn cells) 0;
+  longitude = longitudeOf (valueIn cells) 0;
+  altitude = record { 0 = signOf (valueIn cells depth); 1 = valueIn cells altitude };
+  uncertainty = record { 0 = valueIn cells uncertainty };
+  «semi_major» = record { 0 = valueIn cells semiMajor };
+  «semi_minor» = record { 0 = valueIn cells semiMinor };
+  orientation = record { 0 = valueIn cells orientation };
+  «altitude_uncertainty» = record { 0 = valueIn cells altitudeUncertainty };
+  confidence = record { 0 = valueIn cells confidence };
+  «inner_radius» = record { 0 = valueIn cells innerRadius };
+  offset = record { 0 = valueIn cells offset };
+  included = record { 0 = valueIn cells included };
+  count = 0;
+  latitudes = replicate 15 zeroLatitude;
+  longitudes = replicate 15 zeroLongitude;
+}
 
 -- ---- the record that is made of cells, whatever they hold
 
