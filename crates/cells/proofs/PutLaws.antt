@@ -18,6 +18,13 @@ use Rattle.cells.specs.Answers.{answerOf, givenRoom, PutsCells, OfArray,
 refused-not-done : {why : Refusal} → _≡_ {A = Outcome} Done (Refused why) → ⊥
 refused-not-done e = let z : _≡_ {A = ℕ} 0 1 = cc in absurd (omega arith)
 
+-- the room looked at
+pub no-room : (wanted room : ℕ) → room < wanted → Refused BufferTooShort ≡ givenRoom Done wanted room
+no-room wanted room h = simp (lt-ltb room wanted h)
+
+pub has-room : (wanted room : ℕ) → wanted ≤ room → Done ≡ givenRoom Done wanted room
+has-room wanted room h = simp (le-ltb room wanted h)
+
 module _ {A : Type 0} {cells before after : List A} {n : ℤ} where
   -- by the outcome that is left when the room is looked at
   pub puts-by : {outcome left : Outcome} → left ≡ givenRoom outcome (length cells) (length before) → n ≡ answerOf left (length cells)
@@ -26,10 +33,10 @@ module _ {A : Type 0} {cells before after : List A} {n : ℤ} where
 
   pub puts-done : length cells ≤ length before → n ≡ pos (length cells) → after ≡ cells ++ drop (length cells) before
       → PutsCells Done cells before after n
-  puts-done h a b = puts-by {outcome = Done} {left = Done} (simp (le-ltb (length before) (length cells) h)) a b
+  puts-done h a b = puts-by {outcome = Done} {left = Done} (has-room (length cells) (length before) h) a b
 
   pub puts-short : length before < length cells → n ≡ negsuc 9 → after ≡ before → PutsCells Done cells before after n
-  puts-short h a b = puts-by {outcome = Done} {left = Refused BufferTooShort} (simp (lt-ltb (length before) (length cells) h)) a b
+  puts-short h a b = puts-by {outcome = Done} {left = Refused BufferTooShort} (no-room (length cells) (length before) h) a b
 
   pub puts-refused : {why : Refusal} → n ≡ negsuc (numberOf why - 1) → after ≡ before → PutsCells (Refused why) cells before after n
   puts-refused a b = record { answer = a; array = b }

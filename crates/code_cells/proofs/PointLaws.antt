@@ -5,16 +5,16 @@ use Prim.Native.Nat.{ℕ, zero, suc, _+_, _-_, _*_, _≤_, _<_}
 use native.Mathlib.Nat.{add-zero, add-suc}
 use native.Mathlib.Numerals.{add-one}
 use native.Mathlib.Omega.{arith}
-use lib.ListN.{length, length-append, getD, set, replicate, length-replicate, replicate-append-replicate}
-use lib.Seq.{sets}
+use lib.ListN.{length, length-append, getD, set, drop, replicate, replicate-append-replicate}
+use lib.Seq.{sets, sets-eq}
 use Rattle.ground.specs.declared.codes.LatitudeCode.{LatitudeCode}
 use Rattle.ground.specs.declared.codes.LongitudeCode.{LongitudeCode}
-use Rattle.octets.specs.Codes.{bitOf}
 use Rattle.layout.specs.Shapes.{upto, zeroLatitude, zeroLongitude}
 use Rattle.fetching.proofs.Filling.{fill}
-use Rattle.cells.specs.Codes.{bitsOf}
 use Rattle.ground.proofs.ListLaws.{sets-append}
-use Rattle.code_cells.specs.Shapes.{pointCells, Ended}
+use Rattle.cells.proofs.CopyLaws.{sets-after}
+use Rattle.layout.specs.declared.shapes.Shape.{Shape}
+use Rattle.code_cells.specs.Shapes.{singleCells, pointCell, pointCells, shapeCells, Ended}
 
 module _ (latitudes : List LatitudeCode) (longitudes : List LongitudeCode) where
   pub length-points : (n : ℕ) → length (pointCells latitudes longitudes n) ≡ 3 * n
@@ -22,12 +22,11 @@ module _ (latitudes : List LatitudeCode) (longitudes : List LongitudeCode) where
   length-points (suc n) = length-append (pointCells latitudes longitudes n) _ ∙ omega (arith, length-points n)
 
   -- one point more
-  pub more : (o out : List ℕ) (n : ℕ) {a b : ℕ} → out ≡ sets o 16 (pointCells latitudes longitudes n) → a ≡ bitOf (getD latitudes n zeroLatitude .0) → b ≡ bitsOf (getD longitudes n zeroLongitude .0) → set (set (set out (16 + 3 * n) a) (16 + 3 * n + 1) (getD latitudes n zeroLatitude .1)) (16 + 3 * n + 2) b ≡ sets o 16 (pointCells latitudes longitudes (n + 1))
+  pub more : (o out : List ℕ) (n : ℕ) {a : LatitudeCode} {b : LongitudeCode} → out ≡ sets o 16 (pointCells latitudes longitudes n) → a ≡ getD latitudes n zeroLatitude → b ≡ getD longitudes n zeroLongitude
+      → sets out (16 + 3 * n) (pointCell a b) ≡ sets o 16 (pointCells latitudes longitudes (n + 1))
   more o out n e p q =
-      let v : ℕ = getD latitudes n zeroLatitude .1 in
-      let two : 16 + 3 * n + 2 ≡ suc (suc (16 + 3 * n)) = omega arith in
-      rw (add-one (16 + 3 * n), two, add-one n, e, p, q)
-      (ap (λ (k : ℕ). sets (sets o 16 (pointCells latitudes longitudes n)) (16 + k) (bitOf (getD latitudes n zeroLatitude .0) ∷ v ∷ bitsOf (getD longitudes n zeroLongitude .0) ∷ [])) (sym (length-points n))
+      rw (add-one n, e, p, q)
+      (ap (λ (k : ℕ). sets (sets o 16 (pointCells latitudes longitudes n)) (16 + k) (pointCell (getD latitudes n zeroLatitude) (getD longitudes n zeroLongitude))) (sym (length-points n))
       ∙ sets-append o 16 (pointCells latitudes longitudes n) _)
 
   -- after the last of n points there are zeros
@@ -64,3 +63,11 @@ module _ {A : Type 0} (f : ℕ → A) (z : A) {l : List A} {i : ℕ} (e : l ≡ 
 
   pub all-filled : i ≤ 15 → 15 ≤ i → l ≡ upto 15 f
   all-filled a b = let h : i ≡ 15 = omega arith in subst (λ (k : ℕ). l ≡ upto k f ++ replicate (15 - k) z) h e
+
+-- the cells before the points, the first n points, and zeros after them, are a record's cells
+pub shape-put : (x : Shape) {n : ℕ} → Ended (x .latitudes) (x .longitudes) n → (o : List ℕ) → 61 ≤ length o
+    → sets (sets (sets o 0 (singleCells x)) 16 (pointCells (x .latitudes) (x .longitudes) n)) (16 + 3 * n) (replicate (45 - 3 * n) 0) ≡ shapeCells x ++ drop 61 o
+shape-put x e o h =
+    points-put (x .latitudes) (x .longitudes) e (sets o 0 (singleCells x))
+    ∙ ap (λ (l : List ℕ). sets l 16 (pointCells (x .latitudes) (x .longitudes) 15)) (sets-eq (singleCells x) o 0 (omega arith))
+    ∙ sets-after (singleCells x) (pointCells (x .latitudes) (x .longitudes) 15) o refl refl h

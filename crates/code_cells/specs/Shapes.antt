@@ -47,11 +47,13 @@ abbrev pub singleCells : Shape → List ℕ
 singleCells x =
     typeOf (x .kind) ∷ x .count ∷ bitOf (x .latitude .0) ∷ x .latitude .1 ∷ bitsOf (x .longitude .0) ∷ bitOf (x .altitude .0) ∷ x .altitude .1 ∷ x .uncertainty .0 ∷ x .«semi_major» .0 ∷ x .«semi_minor» .0 ∷ x .orientation .0 ∷ x .«altitude_uncertainty» .0 ∷ x .«inner_radius» .0 ∷ x .offset .0 ∷ x .included .0 ∷ x .confidence .0 ∷ []
 
--- S, latitude and longitude of the first n of these points
+-- S, latitude and longitude of a point, and of the first n of these points
+abbrev pub pointCell : LatitudeCode → LongitudeCode → List ℕ
+pointCell north east = bitOf (north .0) ∷ north .1 ∷ bitsOf (east .0) ∷ []
+
 abbrev pub pointCells : List LatitudeCode → List LongitudeCode → ℕ → List ℕ
 pointCells latitudes longitudes zero = []
-pointCells latitudes longitudes (suc n) =
-    pointCells latitudes longitudes n ++ (bitOf (getD latitudes n zeroLatitude .0) ∷ getD latitudes n zeroLatitude .1 ∷ bitsOf (getD longitudes n zeroLongitude .0) ∷ [])
+pointCells latitudes longitudes (suc n) = pointCells latitudes longitudes n ++ pointCell (getD latitudes n zeroLatitude) (getD longitudes n zeroLongitude)
 
 -- a record in its cells
 abbrev pub shapeCells : Shape → List ℕ

@@ -2,7 +2,13 @@
 mod shapes;
 mod velocities;
 
+pub use shapes::cells_of;
+pub use shapes::clear_from;
+pub use shapes::kind_in;
+pub use shapes::outline_in;
+pub use shapes::put_point;
 pub use shapes::put_shape;
+pub use shapes::put_singles;
 pub use shapes::shape_in;
 pub use shapes::shape_is_whole;
 pub use velocities::put_velocity;

@@ -10,16 +10,75 @@ use ground::LongitudeCode;
 use ground::OffsetCode;
 use ground::OrientationCode;
 use ground::UncertaintyCode;
+use layout::Kind;
 use layout::Shape;
 ghost use mathlib.Core.Path.{_≡_};
 ghost use mathlib.Core.List.{_++_};
-ghost use Prim.Native.Nat.{_+_, _*_, _-_, _≤_};
+ghost use Prim.Native.Nat.{_+_, _*_, _-_, _≤_, _<_};
 ghost use lib.ListN.{length, drop, replicate};
 ghost use Rattle.ground.specs.Answers.{Decides};
 ghost use Rattle.code_cells.specs.Shapes.{shapeCells, singleCells, heldShape, heldLatitude, heldLongitude, Whole, WholeFields, WholePoints, largestNumbers};
 ghost use Rattle.layout.specs.Shapes.{upto};
 ghost use lib.Seq.{sets};
-ghost use Rattle.code_cells.specs.Shapes.{pointCells, Ended};
+ghost use Rattle.code_cells.specs.Shapes.{pointCell, pointCells, Ended, kindIn, rowsIn, valueIn, outlineIn};
+ghost use Rattle.layout.specs.Demands.{InFields};
+
+// The kind of the cells' type.
+pub fn kind_in(codes: &[u32]) -> Kind
+    requires { ⌜ 61 ≤ length (now codes) ⌝ }
+    ensures { λ r. ⌜ r ≡ kindIn (now (codes .entry)) ⌝ }
+{
+    layout::kind_of(cells::capped_octet(codes[0]))
+}
+
+// The record that cells say but for its points, where each number is within its field.
+pub fn outline_in(codes: &[u32], kind: Kind) -> Shape
+    requires { ⌜ 61 ≤ length (now codes) ⌝ }
+    requires { ⌜ kind ≡ kindIn (now codes) ⌝ }
+    requires { ⌜ InFields (rowsIn (now codes)) (valueIn (now codes)) ⌝ }
+    ensures { λ r. ⌜ r ≡ outlineIn (now (codes .entry)) ⌝ }
+{
+    Shape {
+        kind,
+        latitude: LatitudeCode(codes[2] == 1, codes[3]),
+        longitude: cells::longitude_of(codes[4]),
+        altitude: AltitudeCode(codes[5] == 1, codes[6] as u16),
+        uncertainty: UncertaintyCode(codes[7] as u8),
+        semi_major: UncertaintyCode(codes[8] as u8),
+        semi_minor: UncertaintyCode(codes[9] as u8),
+        orientation: OrientationCode(codes[10] as u8),
+        altitude_uncertainty: AltitudeUncertaintyCode(codes[11] as u8),
+        inner_radius: InnerRadiusCode(codes[12] as u16),
+        offset: OffsetCode(codes[13] as u8),
+        included: IncludedCode(codes[14] as u8),
+        confidence: ConfidenceCode(codes[15] as u8),
+        count: 0,
+        latitudes: [LatitudeCode(false, 0); 15],
+        longitudes: [LongitudeCode(0); 15],
+    }
+}
+
+// The cells of a record.
+pub fn cells_of(shape: Shape) -> [u32; 61]
+    ensures { λ r. ⌜ r ≡ shapeCells shape ⌝ }
+{
+    let mut codes = [0u32; 61];
+    let singles = single_cells(shape);
+    let latitudes = shape.latitudes;
+    let longitudes = shape.longitudes;
+    cells::put_codes(&mut codes, &singles);
+    put_points(&mut codes, latitudes, longitudes, 15);
+    codes
+}
+
+// Puts the cells before the points into the first of the array.
+pub fn put_singles(out: &mut [u32], shape: Shape)
+    requires { ⌜ 61 ≤ length (now out) ⌝ }
+    ensures { λ _. ⌜ now (out .exit) ≡ sets (now (out .entry)) 0 (singleCells shape) ⌝ }
+{
+    let singles = single_cells(shape);
+    cells::put_codes(out, &singles);
+}
 
 // Puts the cells of a record into the first of the array.
 pub fn put_shape(out: &mut [u32], shape: Shape)
@@ -89,16 +148,25 @@ fn put_points(
     while i < end {
         let latitude = latitudes[i];
         let longitude = longitudes[i];
-        let at = 16 + 3 * i;
-        out[at] = cells::bit(latitude.0);
-        out[at + 1] = latitude.1;
-        out[at + 2] = cells::complement_of(longitude);
+        put_point(out, i, latitude, longitude);
         i += 1;
     }
 }
 
+// Puts the cells of the point i, the first being 0.
+pub fn put_point(out: &mut [u32], i: usize, latitude: LatitudeCode, longitude: LongitudeCode)
+    requires { ⌜ 61 ≤ length (now out) ⌝ }
+    requires { ⌜ i < 15 ⌝ }
+    ensures { λ _. ⌜ now (out .exit) ≡ sets (now (out .entry)) (16 + 3 * i) (pointCell latitude longitude) ⌝ }
+{
+    let at = 16 + 3 * i;
+    out[at] = cells::bit(latitude.0);
+    out[at + 1] = latitude.1;
+    out[at + 2] = cells::complement_of(longitude);
+}
+
 // Puts zeros for the points after the first n.
-fn clear_from(out: &mut [u32], n: u8)
+pub fn clear_from(out: &mut [u32], n: u8)
     requires { ⌜ 61 ≤ length (now out) ⌝ }
     requires { ⌜ n ≤ 15 ⌝ }
     ensures { λ _. ⌜ now (out .exit) ≡ sets (now (out .entry)) (16 + 3 * n) (replicate (45 - 3 * n) 0) ⌝ }

@@ -1,1 +1,2 @@
 pub mod DemandLaws
+pub mod RoomLaws

@@ -1,43 +1,49 @@
-// What writing a shape's record answers: document 01, "Refusal numbers".
+// What writing the record that a shape's cells say answers, the room aside: document 01, "Refusal numbers".
 use ground::Outcome;
 use ground::Refusal;
 use layout::Kind;
-use layout::Shape;
+ghost use mathlib.Core.Path.{_≡_};
+ghost use Prim.Native.Nat.{_≤_};
+ghost use lib.ListN.{length};
 ghost use Rattle.ground.specs.Answers.{outcomeNumber};
-ghost use Rattle.layout.specs.Shapes.{rowsOf, valueOf};
-ghost use Rattle.judging.specs.Judging.{ShapeAnswer, CodesAnswerOf, RoomAnswerOf, CountAnswer};
+ghost use Rattle.code_cells.specs.Shapes.{kindIn, rowsIn, valueIn};
+ghost use Rattle.judging.specs.Judging.{RecordAnswer, CodesAnswerOf, CountAnswer};
 
-// The answer to a record and the room for its message.
-pub fn outcome(shape: Shape, room: usize) -> Outcome
-    ensures { λ r. ⌜ ShapeAnswer shape room (outcomeNumber r) ⌝ }
+// 2, 4, 5, 6 and 7.
+pub fn outcome(codes: &[u32], kind: Kind) -> Outcome
+    requires { ⌜ 61 ≤ length (now codes) ⌝ }
+    requires { ⌜ kind ≡ kindIn (now codes) ⌝ }
+    ensures { λ r. ⌜ RecordAnswer (rowsIn (now (codes .entry))) (valueIn (now (codes .entry))) (outcomeNumber r) ⌝ }
 {
-    match codes(shape) {
-        Outcome::Done => fitted(shape, room),
-        Outcome::Refused(why) => Outcome::Refused(why),
+    if let Outcome::Refused(why) = codes_outcome(codes, kind) {
+        return Outcome::Refused(why);
     }
+    if !limits::in_fields(codes, kind) {
+        return Outcome::Refused(Refusal::OutOfRange);
+    }
+    Outcome::Done
 }
 
 // 2, 4, 5 and 6.
-fn codes(shape: Shape) -> Outcome
-    ensures { λ r. ⌜ CodesAnswerOf (rowsOf shape) (valueOf shape) (outcomeNumber r) ⌝ }
+fn codes_outcome(codes: &[u32], kind: Kind) -> Outcome
+    requires { ⌜ 61 ≤ length (now codes) ⌝ }
+    requires { ⌜ kind ≡ kindIn (now codes) ⌝ }
+    ensures { λ r. ⌜ CodesAnswerOf (rowsIn (now (codes .entry))) (valueIn (now (codes .entry))) (outcomeNumber r) ⌝ }
 {
-    let kind = shape.kind;
-    let orientation = shape.orientation.0;
-    let confidence = shape.confidence.0;
     match kind {
         Kind::Nothing => Outcome::Refused(Refusal::UnknownType),
         Kind::Point => Outcome::Done,
         Kind::Circle => Outcome::Done,
-        Kind::Ellipse => layout::codes_outcome(orientation, 0, 0, confidence),
-        Kind::Polygon => count(shape.count),
+        Kind::Ellipse => layout::codes_outcome(codes[10], 0, 0, codes[15]),
+        Kind::Polygon => count(codes[1]),
         Kind::AltitudePoint => Outcome::Done,
-        Kind::AltitudeEllipsoid => layout::codes_outcome(orientation, 0, 0, confidence),
-        Kind::Arc => layout::codes_outcome(0, shape.offset.0, shape.included.0, confidence),
+        Kind::AltitudeEllipsoid => layout::codes_outcome(codes[10], 0, 0, codes[15]),
+        Kind::Arc => layout::codes_outcome(0, codes[13], codes[14], codes[15]),
     }
 }
 
 // A polygon has 3 to 15 points.
-fn count(n: u8) -> Outcome
+fn count(n: u32) -> Outcome
     ensures { λ r. ⌜ CountAnswer n (outcomeNumber r) ⌝ }
 {
     if n < 3 {
@@ -45,20 +51,6 @@ fn count(n: u8) -> Outcome
     }
     if 15 < n {
         return Outcome::Refused(Refusal::PolygonCount);
-    }
-    Outcome::Done
-}
-
-// 7 and 10.
-fn fitted(shape: Shape, room: usize) -> Outcome
-    ensures { λ r. ⌜ RoomAnswerOf (rowsOf shape) (valueOf shape) room (outcomeNumber r) ⌝ }
-{
-    if !limits::in_fields(shape) {
-        return Outcome::Refused(Refusal::OutOfRange);
-    }
-    let kind = shape.kind;
-    if room < layout::message_length(kind, shape.count) {
-        return Outcome::Refused(Refusal::BufferTooShort);
     }
     Outcome::Done
 }

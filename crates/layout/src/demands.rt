@@ -5,7 +5,7 @@ ghost use Rattle.ground.specs.Answers.{outcomeNumber};
 ghost use Rattle.layout.specs.Demands.{CodesAnswer};
 
 // 5 and 6. A code that the shape doesn't use is given as 0, which either demand takes.
-pub fn codes_outcome(orientation: u8, offset: u8, included: u8, confidence: u8) -> Outcome
+pub fn codes_outcome(orientation: u32, offset: u32, included: u32, confidence: u32) -> Outcome
     ensures { λ r. ⌜ CodesAnswer orientation offset included confidence (outcomeNumber r) ⌝ }
 {
     if 180 <= orientation {

@@ -1,20 +1,19 @@
--- A record's codes are in their fields just where the fixed fields' are within their widths, and its points within theirs.
+-- Numbers are in their fields just where those of single fields are at most the largest, and the points' within theirs.
 -- Assumes nothing.
-use Prim.Native.Nat.{ℕ, zero, suc, _*_, _/_, _^_, _≤_, _<_}
-use mathlib.Core.Path.{_≡_, refl}
-use mathlib.Core.Bool.{Bool, true, false, cond, _&&_}
+use Prim.Native.Nat.{ℕ, zero, suc, _+_, _-_, _*_, _/_, _%_, _^_, _≤_, _<_}
+use mathlib.Core.Path.{_≡_, refl, sym, ap, _∙_}
+use mathlib.Core.Bool.{Bool, true, false}
 use mathlib.Core.List.{List, [], _∷_, map}
 use native.Mathlib.Omega.{arith}
-use native.Mathlib.Nat.{div-lt-iff-lt-mul}
+use native.Mathlib.Nat.{add-zero}
 use lib.Dec.{ltb}
-use lib.ListN.{length, getD, List·getD-eq-default}
-use lib.Pow.{pow-pos}
+use lib.IntN.{pos, negsuc}
+use lib.ListN.{length, getD, take}
+use lib.Pow.{pow-pos, le-ones, lt-of-le-ones}
 use borrow.Author.Tests.{ltb-true, ltb-false}
-use Rattle.ground.specs.declared.codes.LatitudeCode.{LatitudeCode}
-use Rattle.ground.specs.declared.codes.LongitudeCode.{LongitudeCode}
+use Rattle.octets.specs.Codes.{complement}
 use Rattle.layout.specs.declared.shapes.Kind.{Kind}
 use Rattle.layout.specs.declared.shapes.Kind.the-variants.{Nothing, Point, Circle, Ellipse, Polygon, AltitudePoint, AltitudeEllipsoid, Arc}
-use Rattle.layout.specs.declared.shapes.Shape.{Shape}
 use Rattle.layout.specs.Layout.{
   Field,
   typeNumber,
@@ -40,34 +39,28 @@ use Rattle.layout.specs.Layout.{
   speedUncertainty,
   verticalUncertainty,
   shapeRows,
-  typeOf,
 }
 use Rattle.layout.specs.Rows.{tag, widthOf}
-use Rattle.layout.specs.Shapes.{rowsOf, valueOf, zeroLatitude, zeroLongitude}
-use Rattle.layout.proofs.TidyLaws.{both}
+use Rattle.layout.specs.Demands.{InFields}
 use Rattle.layout.proofs.PolygonLaws.{point-row}
 use Rattle.layout.proofs.KindLaws.{pointsOf, point-width, no-point-width, fixed-width}
-use Rattle.limits.specs.Limits.{ShapeInFields, fixedFields, numbersOf, widthsOf, Within, PointWithin, PointsWithin}
+use Rattle.layout.proofs.MessageLaws.{Position}
+use Rattle.cells.specs.Codes.{cellAt, fromBits}
+use Rattle.code_cells.specs.Shapes.{valueIn, kindIn}
+use Rattle.limits.specs.Limits.{CellsInFields, singleFields, numbersIn, largestOf, Within, NoneFrom, PointsWithin}
+use Rattle.limits.proofs.CellLaws.{same-cell, no-cell, south-cell, latitude-cell, longitude-cell}
 
--- ---- one number, shifted by its width
+-- ---- widths that don't depend on the count
 
-pub shifted : (n w : ℕ) → n / 2 ^ w ≡ 0 → n < 2 ^ w
-shifted n w e =
-    let z : n / 2 ^ w < 1 = omega arith in
-    let h : n < 1 * 2 ^ w = div-lt-iff-lt-mul (pow-pos w) .0 z in
-    omega arith
-
--- ---- the widths of fixed fields
-
-type-within : (k : Kind) (n : ℕ) → typeOf k < 2 ^ widthOf (shapeRows k n) typeNumber
-type-within Nothing n = omega arith
-type-within Point n = omega arith
-type-within Circle n = omega arith
-type-within Ellipse n = omega arith
-type-within Polygon n = omega arith
-type-within AltitudePoint n = omega arith
-type-within AltitudeEllipsoid n = omega arith
-type-within Arc n = omega arith
+type-width : (k : Kind) (n : ℕ) → widthOf (shapeRows k n) typeNumber ≡ widthOf (shapeRows k 0) typeNumber
+type-width Nothing n = refl
+type-width Point n = refl
+type-width Circle n = refl
+type-width Ellipse n = refl
+type-width Polygon n = refl
+type-width AltitudePoint n = refl
+type-width AltitudeEllipsoid n = refl
+type-width Arc n = refl
 
 pub count-width : (k : Kind) (n : ℕ) → widthOf (shapeRows k n) count ≡ widthOf (shapeRows k 0) count
 count-width Nothing n = refl
@@ -79,97 +72,94 @@ count-width AltitudePoint n = refl
 count-width AltitudeEllipsoid n = refl
 count-width Arc n = refl
 
--- ---- the widths of points
+-- a count in its field: at most 15, and zero where there are no points
+most : (k : Kind) (m : ℕ) → m < 2 ^ widthOf (shapeRows k 0) count → m ≤ 15
+most Nothing m h = omega arith
+most Point m h = omega arith
+most Circle m h = omega arith
+most Ellipse m h = omega arith
+most Polygon m h = omega arith
+most AltitudePoint m h = omega arith
+most AltitudeEllipsoid m h = omega arith
+most Arc m h = omega arith
 
-module _ (k : Kind) (n : ℕ) where
-  point-bits : (b : Bool) (r i : ℕ) → ltb i (pointsOf k n) ≡ b → widthOf (shapeRows k n) (point-row r i .field) ≡ cond b (point-row r i .width) 0
-  point-bits true r i e = point-width k n r i (ltb-true _ _ e)
-  point-bits false zero i e = no-point-width k n (south (suc i)) (omega arith) (omega (arith, ltb-false i (pointsOf k n) e))
-  point-bits false (suc zero) i e = no-point-width k n (latitude (suc i)) (omega arith) (omega (arith, ltb-false i (pointsOf k n) e))
-  point-bits false (suc (suc r)) i e = no-point-width k n (longitude (suc i)) (omega arith) (omega (arith, ltb-false i (pointsOf k n) e))
+used : (k : Kind) (m : ℕ) → m < 2 ^ widthOf (shapeRows k 0) count → pointsOf k m ≡ m
+used Nothing m h = omega arith
+used Point m h = omega arith
+used Circle m h = omega arith
+used Ellipse m h = omega arith
+used Polygon m h = refl
+used AltitudePoint m h = omega arith
+used AltitudeEllipsoid m h = omega arith
+used Arc m h = omega arith
 
-limit : (b : Bool) (w : ℕ) → 2 ^ cond b w 0 ≡ cond b (2 ^ w) 1
-limit true w = refl
-limit false w = refl
-
--- the count that is used: in its field it is zero, or a polygon's
-used : (k : Kind) (n : ℕ) → n < 2 ^ widthOf (shapeRows k 0) count → pointsOf k n ≡ n
-used Nothing n h = omega arith
-used Point n h = omega arith
-used Circle n h = omega arith
-used Ellipse n h = omega arith
-used Polygon n h = refl
-used AltitudePoint n h = omega arith
-used AltitudeEllipsoid n h = omega arith
-used Arc n h = omega arith
-
--- a point past a list's end is zero, and so within any width
-positive : (b : Bool) (n : ℕ) → 0 < cond b (suc n) 1
-positive true n = omega arith
-positive false n = omega arith
-
-pub all-points : (latitudes : List LatitudeCode) (longitudes : List LongitudeCode) (n : ℕ) → length latitudes ≡ 15 → length longitudes ≡ 15
-    → ((i : ℕ) → i < 15 → PointWithin (ltb i n) (getD latitudes i zeroLatitude) (getD longitudes i zeroLongitude)) → PointsWithin latitudes longitudes n
-all-points latitudes longitudes n a b h i = below (ltb i 15) refl
-  where
-    below : (t : Bool) → ltb i 15 ≡ t → PointWithin (ltb i n) (getD latitudes i zeroLatitude) (getD longitudes i zeroLongitude)
-    below true e = h i (ltb-true _ _ e)
-    below false e =
-        let l : 15 ≤ i = ltb-false _ _ e in
-        rw (List·getD-eq-default latitudes zeroLatitude {n = i} (omega arith), List·getD-eq-default longitudes zeroLongitude {n = i} (omega arith))
-        (record { sign = positive (ltb i n) 1; size = positive (ltb i n) 8388607; turn = positive (ltb i n) 16777215 })
+-- a point after the last has no bits
+no-bits : (k : Kind) (n r i : ℕ) → pointsOf k n ≤ i → widthOf (shapeRows k n) (point-row r i .field) ≡ 0
+no-bits k n zero i h = no-point-width k n (south (suc i)) (omega arith) (omega arith)
+no-bits k n (suc zero) i h = no-point-width k n (latitude (suc i)) (omega arith) (omega arith)
+no-bits k n (suc (suc r)) i h = no-point-width k n (longitude (suc i)) (omega arith) (omega arith)
 
 -- what holds of each of these fields holds at each place of the arrays
 abbrev Each : (Field → Type 0) → List Field → Type 0
 Each P [] = Unit {0}
 Each P (f ∷ fs) = P f × Each P fs
 
-at-each : (v w : Field → ℕ) (fs : List Field) → Each (λ f. v f < 2 ^ w f) fs → (i : ℕ) → i < length fs → getD (map v fs) i 0 < 2 ^ getD (map w fs) i 0
+at-each : (v w : Field → ℕ) (fs : List Field) → Each (λ f. v f < 2 ^ w f) fs → (i : ℕ) → i < length fs → getD (map v fs) i 0 ≤ getD (map (λ f. 2 ^ w f - 1) fs) i 0
 at-each v w [] a i h = absurd (omega arith)
-at-each v w (f ∷ fs) a zero h = a .0
+at-each v w (f ∷ fs) a zero h = le-ones (w f) (a .0)
 at-each v w (f ∷ fs) a (suc i) h = at-each v w fs (a .1) i (omega arith)
 
-module _ (x : Shape) where
-  -- ---- from the fields to the tests
+-- the fields of velocities
+abbrev velocityFields : List Field
+velocityFields = bearing ∷ horizontalSpeed ∷ down ∷ verticalSpeed ∷ speedUncertainty ∷ verticalUncertainty ∷ []
 
-  module _ (h : ShapeInFields x) where
-    counted : x .count < 2 ^ widthOf (shapeRows (x .kind) 0) count
-    counted = rw (count-width (x .kind) (x .count)) at (h .each count)
+-- ---- any numbers
 
-    fixed : (f : Field) → 2 ≤ tag f → tag f < 22 → valueOf x f < 2 ^ widthOf (shapeRows (x .kind) 0) f
-    fixed f a b = rw (fixed-width (x .kind) (x .count) f a b) at (h .each f)
+module _ (k : Kind) (n : ℕ) (value : Field → ℕ) where
+  module _ (h : InFields (shapeRows k n) value) where
+    counted : value count < 2 ^ widthOf (shapeRows k 0) count
+    counted = rw (count-width k n) at (h .each count)
 
-    pub fixed-within : Within (numbersOf x) (widthsOf (x .kind))
-    fixed-within =
-        at-each (valueOf x) (widthOf (shapeRows (x .kind) 0)) fixedFields (
-          fixed uncertainty (omega arith) (omega arith),
+    pub count-most : value count ≤ 15
+    count-most = most k (value count) counted
+
+    fixed : (f : Field) → 2 ≤ tag f → tag f < 22 → value f < 2 ^ widthOf (shapeRows k 0) f
+    fixed f a b = rw (fixed-width k n f a b) at (h .each f)
+
+    pub singles-within : Within (map value singleFields) (largestOf k)
+    singles-within =
+        at-each value (widthOf (shapeRows k 0)) singleFields (
+          rw (type-width k n) at (h .each typeNumber),
           (
-            fixed semiMajor (omega arith) (omega arith),
+            counted,
             (
-              fixed semiMinor (omega arith) (omega arith),
+              fixed (south 0) (omega arith) (omega arith),
               (
-                fixed orientation (omega arith) (omega arith),
+                fixed (latitude 0) (omega arith) (omega arith),
                 (
-                  fixed altitudeUncertainty (omega arith) (omega arith),
+                  fixed (longitude 0) (omega arith) (omega arith),
                   (
-                    fixed confidence (omega arith) (omega arith),
+                    fixed depth (omega arith) (omega arith),
                     (
-                      fixed innerRadius (omega arith) (omega arith),
+                      fixed altitude (omega arith) (omega arith),
                       (
-                        fixed offset (omega arith) (omega arith),
+                        fixed uncertainty (omega arith) (omega arith),
                         (
-                          fixed included (omega arith) (omega arith),
+                          fixed semiMajor (omega arith) (omega arith),
                           (
-                            counted,
+                            fixed semiMinor (omega arith) (omega arith),
                             (
-                              fixed altitude (omega arith) (omega arith),
+                              fixed orientation (omega arith) (omega arith),
                               (
-                                fixed depth (omega arith) (omega arith),
+                                fixed altitudeUncertainty (omega arith) (omega arith),
                                 (
-                                  fixed (south 0) (omega arith) (omega arith),
+                                  fixed innerRadius (omega arith) (omega arith),
                                   (
-                                    fixed (latitude 0) (omega arith) (omega arith),
-                                    (fixed (longitude 0) (omega arith) (omega arith), tt),
+                                    fixed offset (omega arith) (omega arith),
+                                    (
+                                      fixed included (omega arith) (omega arith),
+                                      (fixed confidence (omega arith) (omega arith), tt),
+                                    ),
                                   ),
                                 ),
                               ),
@@ -185,75 +175,144 @@ module _ (x : Shape) where
           ),
         )
 
-    point-within : (r i : ℕ) → valueOf x (point-row r i .field) < cond (ltb i (x .count)) (2 ^ point-row r i .width) 1
-    point-within r i =
-        rw (point-bits (x .kind) (x .count) (ltb i (pointsOf (x .kind) (x .count))) r i refl, limit, used (x .kind) (x .count) counted) at (h .each (point-row r i .field))
+    -- the points that the rows have
+    point-number : (r i : ℕ) → i < pointsOf k n → value (point-row r i .field) < 2 ^ point-row r i .width
+    point-number r i l = rw (point-width k n r i l) at (h .each (point-row r i .field))
 
-    pub points-within : PointsWithin (x .latitudes) (x .longitudes) (x .count)
-    points-within i = record { sign = point-within 0 i; size = point-within 1 i; turn = point-within 2 i }
+    pub points-within : (i : ℕ) → i < pointsOf k n → Position value (suc i)
+    points-within i l = record { sign = point-number 0 i l; size = point-number 1 i l; turn = point-number 2 i l }
+
+    -- and the others
+    pub no-number : (r i : ℕ) → pointsOf k n ≤ i → value (point-row r i .field) ≡ 0
+    no-number r i l = omega (arith, rw (no-bits k n r i l) at (h .each (point-row r i .field)))
 
   -- ---- and back
 
-  module _ (h : Within (numbersOf x) (widthsOf (x .kind))) (p : PointsWithin (x .latitudes) (x .longitudes) (x .count)) where
-    fixed-back : (f : Field) → 2 ≤ tag f → tag f < 22 → valueOf x f < 2 ^ widthOf (shapeRows (x .kind) 0) f → valueOf x f < 2 ^ widthOf (rowsOf x) f
-    fixed-back f l m v = rw (fixed-width (x .kind) (x .count) f l m) v
+  module _ (h : Within (map value singleFields) (largestOf k)) where
+    count-back : value count < 2 ^ widthOf (shapeRows k 0) count
+    count-back = lt-of-le-ones (widthOf (shapeRows k 0) count) (h 1 (omega arith))
 
-    count-back : x .count < 2 ^ widthOf (rowsOf x) count
-    count-back = rw (count-width (x .kind) (x .count)) (h 9 (omega arith))
+    pub count-narrow : value count ≤ 15
+    count-narrow = most k (value count) count-back
 
-    point-back : (r i : ℕ) → valueOf x (point-row r i .field) < cond (ltb i (x .count)) (2 ^ point-row r i .width) 1 → valueOf x (point-row r i .field) < 2 ^ widthOf (rowsOf x) (point-row r i .field)
-    point-back r i v =
-        rw (point-bits (x .kind) (x .count) (ltb i (pointsOf (x .kind) (x .count))) r i refl, limit, used (x .kind) (x .count) (h 9 (omega arith))) v
+    fixed-back : (f : Field) → 2 ≤ tag f → tag f < 22 → value f ≤ 2 ^ widthOf (shapeRows k 0) f - 1 → value f < 2 ^ widthOf (shapeRows k n) f
+    fixed-back f a b l = rw (fixed-width k n f a b) (lt-of-le-ones (widthOf (shapeRows k 0) f) l)
 
-    each : (f : Field) → valueOf x f < 2 ^ widthOf (rowsOf x) f
-    each typeNumber = type-within (x .kind) (x .count)
-    each count = count-back
-    each (south zero) = fixed-back (south 0) (omega arith) (omega arith) (h 12 (omega arith))
-    each (latitude zero) = fixed-back (latitude 0) (omega arith) (omega arith) (h 13 (omega arith))
-    each (longitude zero) = fixed-back (longitude 0) (omega arith) (omega arith) (h 14 (omega arith))
-    each depth = fixed-back depth (omega arith) (omega arith) (h 11 (omega arith))
-    each altitude = fixed-back altitude (omega arith) (omega arith) (h 10 (omega arith))
-    each uncertainty = fixed-back uncertainty (omega arith) (omega arith) (h 0 (omega arith))
-    each semiMajor = fixed-back semiMajor (omega arith) (omega arith) (h 1 (omega arith))
-    each semiMinor = fixed-back semiMinor (omega arith) (omega arith) (h 2 (omega arith))
-    each orientation = fixed-back orientation (omega arith) (omega arith) (h 3 (omega arith))
-    each altitudeUncertainty = fixed-back altitudeUncertainty (omega arith) (omega arith) (h 4 (omega arith))
-    each confidence = fixed-back confidence (omega arith) (omega arith) (h 5 (omega arith))
-    each innerRadius = fixed-back innerRadius (omega arith) (omega arith) (h 6 (omega arith))
-    each offset = fixed-back offset (omega arith) (omega arith) (h 7 (omega arith))
-    each included = fixed-back included (omega arith) (omega arith) (h 8 (omega arith))
-    each (south (suc i)) = point-back 0 i (p i .sign)
-    each (latitude (suc i)) = point-back 1 i (p i .size)
-    each (longitude (suc i)) = point-back 2 i (p i .turn)
-    each bearing = pow-pos _
-    each horizontalSpeed = pow-pos _
-    each down = pow-pos _
-    each verticalSpeed = pow-pos _
-    each speedUncertainty = pow-pos _
-    each verticalUncertainty = pow-pos _
+    module _
+        (points : (r i : ℕ) → i < pointsOf k n → value (point-row r i .field) < 2 ^ point-row r i .width)
+        (none : (r i : ℕ) → pointsOf k n ≤ i → value (point-row r i .field) ≡ 0)
+        (still : Each (λ f. value f ≡ 0) velocityFields) where
+      zero-back : (f : Field) → value f ≡ 0 → value f < 2 ^ widthOf (shapeRows k n) f
+      zero-back f e = rw e (pow-pos _)
 
-    pub in-fields : ShapeInFields x
-    in-fields = record { each = each }
+      point-back : (r i : ℕ) → value (point-row r i .field) < 2 ^ widthOf (shapeRows k n) (point-row r i .field)
+      point-back r i = by (ltb i (pointsOf k n)) refl
+        where
+          by : (t : Bool) → ltb i (pointsOf k n) ≡ t → value (point-row r i .field) < 2 ^ widthOf (shapeRows k n) (point-row r i .field)
+          by true e = rw (point-width k n r i (ltb-true _ _ e)) (points r i (ltb-true _ _ e))
+          by false e = zero-back (point-row r i .field) (none r i (ltb-false _ _ e))
 
--- no width is above 24
-abbrev narrows : List ℕ → Bool
-narrows [] = true
-narrows (w ∷ ws) = ltb w 32 && narrows ws
+      each : (f : Field) → value f < 2 ^ widthOf (shapeRows k n) f
+      each typeNumber = rw (type-width k n) (lt-of-le-ones (widthOf (shapeRows k 0) typeNumber) (h 0 (omega arith)))
+      each count = rw (count-width k n) count-back
+      each (south zero) = fixed-back (south 0) (omega arith) (omega arith) (h 2 (omega arith))
+      each (latitude zero) = fixed-back (latitude 0) (omega arith) (omega arith) (h 3 (omega arith))
+      each (longitude zero) = fixed-back (longitude 0) (omega arith) (omega arith) (h 4 (omega arith))
+      each depth = fixed-back depth (omega arith) (omega arith) (h 5 (omega arith))
+      each altitude = fixed-back altitude (omega arith) (omega arith) (h 6 (omega arith))
+      each uncertainty = fixed-back uncertainty (omega arith) (omega arith) (h 7 (omega arith))
+      each semiMajor = fixed-back semiMajor (omega arith) (omega arith) (h 8 (omega arith))
+      each semiMinor = fixed-back semiMinor (omega arith) (omega arith) (h 9 (omega arith))
+      each orientation = fixed-back orientation (omega arith) (omega arith) (h 10 (omega arith))
+      each altitudeUncertainty = fixed-back altitudeUncertainty (omega arith) (omega arith) (h 11 (omega arith))
+      each innerRadius = fixed-back innerRadius (omega arith) (omega arith) (h 12 (omega arith))
+      each offset = fixed-back offset (omega arith) (omega arith) (h 13 (omega arith))
+      each included = fixed-back included (omega arith) (omega arith) (h 14 (omega arith))
+      each confidence = fixed-back confidence (omega arith) (omega arith) (h 15 (omega arith))
+      each (south (suc i)) = point-back 0 i
+      each (latitude (suc i)) = point-back 1 i
+      each (longitude (suc i)) = point-back 2 i
+      each bearing = zero-back bearing (still .0)
+      each horizontalSpeed = zero-back horizontalSpeed (still .1 .0)
+      each down = zero-back down (still .1 .1 .0)
+      each verticalSpeed = zero-back verticalSpeed (still .1 .1 .1 .0)
+      each speedUncertainty = zero-back speedUncertainty (still .1 .1 .1 .1 .0)
+      each verticalUncertainty = zero-back verticalUncertainty (still .1 .1 .1 .1 .1 .0)
 
-small : (ws : List ℕ) → narrows ws ≡ true → (i : ℕ) → getD ws i 0 < 32
-small [] e i = omega arith
-small (w ∷ ws) e zero = ltb-true _ _ (both (ltb w 32) (narrows ws) e .0)
-small (w ∷ ws) e (suc i) = small ws (both (ltb w 32) (narrows ws) e .1) i
+      pub in-fields : InFields (shapeRows k n) value
+      in-fields = record { each = each }
 
-narrow-kind : (k : Kind) → narrows (widthsOf k) ≡ true
-narrow-kind Nothing = refl
-narrow-kind Point = refl
-narrow-kind Circle = refl
-narrow-kind Ellipse = refl
-narrow-kind Polygon = refl
-narrow-kind AltitudePoint = refl
-narrow-kind AltitudeEllipsoid = refl
-narrow-kind Arc = refl
+-- ---- a longitude's cell
 
-pub narrow : (k : Kind) (i : ℕ) → getD (widthsOf k) i 0 < 32
-narrow k = small (widthsOf k) (narrow-kind k)
+positive : (n : ℕ) → complement (pos n) ≡ 0 → n ≡ 0
+positive n = by (ltb n 8388608) refl
+  where
+    by : (t : Bool) → ltb n 8388608 ≡ t → complement (pos n) ≡ 0 → n ≡ 0
+    by true e h = rw e at h
+    by false e h = absurd (omega (arith, rw e at h))
+
+negative : (n : ℕ) → complement (negsuc n) ≡ 0 → ⊥
+negative n = by (ltb n 8388608) refl
+  where
+    by : (t : Bool) → ltb n 8388608 ≡ t → complement (negsuc n) ≡ 0 → ⊥
+    by true e h = absurd (omega (arith, ltb-true n 8388608 e, rw e at h))
+    by false e h = absurd (omega (arith, rw e at h))
+
+-- the one cell whose number of 24 bits is zero
+none-turned : (n : ℕ) → complement (fromBits n) ≡ 0 → n ≡ 0
+none-turned n = by (ltb n 2147483648) refl
+  where
+    by : (t : Bool) → ltb n 2147483648 ≡ t → complement (fromBits n) ≡ 0 → n ≡ 0
+    by true e h = positive n (rw e at h)
+    by false e h = absurd (negative (4294967295 - n) (rw e at h))
+
+-- ---- the numbers in cells
+
+module _ (cells : List ℕ) where
+  -- a point's cells are zero where its numbers are
+  cell-none : (r i : ℕ) → r < 3 → i < 15 → valueIn cells (point-row r i .field) ≡ 0 → cellAt cells (16 + 3 * i + r) ≡ 0
+  cell-none zero i h l e = rw (add-zero (16 + 3 * i)) (sym (south-cell cells i l) ∙ e)
+  cell-none (suc zero) i h l e = sym (latitude-cell cells i l) ∙ e
+  cell-none (suc (suc zero)) i h l e = none-turned _ (sym (longitude-cell cells i l) ∙ e)
+  cell-none (suc (suc (suc r))) i h l e = absurd (omega arith)
+
+  module _ (h : CellsInFields cells) where
+    points-used : pointsOf (kindIn cells) (valueIn cells count) ≡ valueIn cells count
+    points-used = used (kindIn cells) (valueIn cells count) (counted (kindIn cells) (valueIn cells count) (valueIn cells) h)
+
+    none-from : NoneFrom cells (16 + 3 * valueIn cells count)
+    none-from at l m =
+        let e : 16 + 3 * ((at - 16) / 3) + (at - 16) % 3 ≡ at = omega arith in
+        rw e at (cell-none ((at - 16) % 3) ((at - 16) / 3) (omega arith) (omega arith) (no-number (kindIn cells) (valueIn cells count) (valueIn cells) h ((at - 16) % 3) ((at - 16) / 3) (omega (arith, points-used))))
+
+    pub cells-points : PointsWithin cells (valueIn cells count)
+    cells-points = record {
+      used = λ i l. let p = points-within (kindIn cells) (valueIn cells count) (valueIn cells) h i (omega (arith, points-used)) in record { sign = p .sign; size = p .size; turn = p .turn };
+      none = none-from;
+    }
+
+  module _ (h : Within (numbersIn cells) (largestOf (kindIn cells))) (p : PointsWithin cells (valueIn cells count)) where
+    none-at : (i : ℕ) → 16 + 3 * valueIn cells count ≤ i → cellAt (take 61 cells) i ≡ 0
+    none-at i l = by (ltb i 61) refl
+      where
+        by : (t : Bool) → ltb i 61 ≡ t → cellAt (take 61 cells) i ≡ 0
+        by true e = sym (same-cell cells i (ltb-true _ _ e)) ∙ p .none i l (ltb-true _ _ e)
+        by false e = sym (no-cell cells i (ltb-false _ _ e))
+
+    used-back : pointsOf (kindIn cells) (valueIn cells count) ≡ valueIn cells count
+    used-back = used (kindIn cells) (valueIn cells count) (count-back (kindIn cells) (valueIn cells count) (valueIn cells) h)
+
+    point-at : (r i : ℕ) → i < valueIn cells count → valueIn cells (point-row r i .field) < 2 ^ point-row r i .width
+    point-at zero i l = p .used i l .sign
+    point-at (suc zero) i l = p .used i l .size
+    point-at (suc (suc r)) i l = p .used i l .turn
+
+    no-point-at : (r i : ℕ) → valueIn cells count ≤ i → valueIn cells (point-row r i .field) ≡ 0
+    no-point-at zero i l = none-at (16 + 3 * i) (omega arith)
+    no-point-at (suc zero) i l = none-at (17 + 3 * i) (omega arith)
+    no-point-at (suc (suc r)) i l = ap (λ (n : ℕ). complement (fromBits n)) (none-at (18 + 3 * i) (omega arith))
+
+    pub cells-in-fields : CellsInFields cells
+    cells-in-fields =
+        in-fields (kindIn cells) (valueIn cells count) (valueIn cells) h (λ r i l. point-at r i (omega (arith, used-back))) (λ r i l. no-point-at r i (omega (arith, used-back)))
+        (refl, (refl, (refl, (refl, (refl, (refl, tt))))))

@@ -1,16 +1,12 @@
--- The widths of a record's fields, from the layout table, and the codes that they hold. Assumes nothing.
-use mathlib.Core.Bool.{Bool, cond}
+-- The widths of a shape's fields, from the layout table, and the numbers in cells that they hold. Assumes nothing.
+use mathlib.Core.Path.{_≡_}
 use mathlib.Core.List.{List, [], _∷_, map}
-use Prim.Native.Nat.{ℕ, _^_, _<_}
-use lib.Dec.{ltb}
+use Prim.Native.Nat.{ℕ, suc, _+_, _-_, _*_, _^_, _≤_, _<_}
 use lib.ListN.{getD}
-use Rattle.ground.specs.declared.codes.LatitudeCode.{LatitudeCode}
-use Rattle.ground.specs.declared.codes.LongitudeCode.{LongitudeCode}
-use Rattle.octets.specs.Codes.{bitOf, complement}
 use Rattle.layout.specs.declared.shapes.Kind.{Kind}
-use Rattle.layout.specs.declared.shapes.Shape.{Shape}
 use Rattle.layout.specs.Layout.{
   Field,
+  typeNumber,
   count,
   south,
   latitude,
@@ -30,32 +26,42 @@ use Rattle.layout.specs.Layout.{
 }
 use Rattle.layout.specs.Rows.{widthOf}
 use Rattle.layout.specs.Demands.{InFields}
-use Rattle.layout.specs.Shapes.{rowsOf, valueOf, zeroLatitude, zeroLongitude}
+use Rattle.cells.specs.Codes.{cellAt}
+use Rattle.code_cells.specs.Shapes.{valueIn, rowsIn}
 
-abbrev pub ShapeInFields : Shape → Type 0
-ShapeInFields x = InFields (rowsOf x) (valueOf x)
+abbrev pub CellsInFields : List ℕ → Type 0
+CellsInFields cells = InFields (rowsIn cells) (valueIn cells)
 
--- the fields that are no polygon point's, in the order of the arrays
-abbrev pub fixedFields : List Field
-fixedFields =
-    uncertainty ∷ semiMajor ∷ semiMinor ∷ orientation ∷ altitudeUncertainty ∷ confidence ∷ innerRadius ∷ offset ∷ included ∷ count ∷ altitude ∷ depth ∷ south 0 ∷ latitude 0 ∷ longitude 0 ∷ []
+-- the fields that are no polygon point's, in the order of the cells
+abbrev pub singleFields : List Field
+singleFields =
+    typeNumber ∷ count ∷ south 0 ∷ latitude 0 ∷ longitude 0 ∷ depth ∷ altitude ∷ uncertainty ∷ semiMajor ∷ semiMinor ∷ orientation ∷ altitudeUncertainty ∷ innerRadius ∷ offset ∷ included ∷ confidence ∷ []
 
-abbrev pub numbersOf : Shape → List ℕ
-numbersOf x = map (valueOf x) fixedFields
+abbrev pub numbersIn : List ℕ → List ℕ
+numbersIn cells = map (valueIn cells) singleFields
 
-abbrev pub widthsOf : Kind → List ℕ
-widthsOf k = map (widthOf (shapeRows k 0)) fixedFields
+-- the largest number that so many bits hold
+abbrev pub largestOf : Kind → List ℕ
+largestOf k = map (λ f. 2 ^ widthOf (shapeRows k 0) f - 1) singleFields
 
--- each number against its width
+-- each number against the largest
 abbrev pub Within : List ℕ → List ℕ → Type 0
-Within numbers widths = (i : ℕ) → i < 15 → getD numbers i 0 < 2 ^ getD widths i 0
+Within numbers largest = (i : ℕ) → i < 16 → getD numbers i 0 ≤ getD largest i 0
 
--- the numbers of a point that is used, or not, against 1, 23 and 24 bits, or none
-pub record PointWithin (used : Bool) (latitude : LatitudeCode) (longitude : LongitudeCode) : Type 0 where
-  pub sign : bitOf (latitude .0) < cond used 2 1
-  pub size : latitude .1 < cond used 8388608 1
-  pub turn : complement (longitude .0) < cond used 16777216 1
+-- the numbers of a point against 1, 23 and 24 bits
+pub record PointWithin (cells : List ℕ) (i : ℕ) : Type 0 where
+  pub sign : valueIn cells (south (suc i)) < 2
+  pub size : valueIn cells (latitude (suc i)) < 8388608
+  pub turn : valueIn cells (longitude (suc i)) < 16777216
 
--- of these points the first n are used; a list's others are zero
-abbrev pub PointsWithin : List LatitudeCode → List LongitudeCode → ℕ → Type 0
-PointsWithin latitudes longitudes n = (i : ℕ) → PointWithin (ltb i n) (getD latitudes i zeroLatitude) (getD longitudes i zeroLongitude)
+abbrev pub UsedWithin : List ℕ → ℕ → Type 0
+UsedWithin cells n = (i : ℕ) → i < n → PointWithin cells i
+
+-- no number from that cell on
+abbrev pub NoneFrom : List ℕ → ℕ → Type 0
+NoneFrom cells first = (at : ℕ) → first ≤ at → at < 61 → cellAt cells at ≡ 0
+
+-- of the fifteen points the first n are used; the others are zero
+pub record PointsWithin (cells : List ℕ) (n : ℕ) : Type 0 where
+  pub used : UsedWithin cells n
+  pub none : NoneFrom cells (16 + 3 * n)

@@ -1,97 +1,165 @@
-// Whether each code of a record is within its field. A field that a kind doesn't have has no bits, and its one code is zero.
+// Whether each number in a shape's cells is within its field. A field that a kind doesn't have has no bits, and its one number is
+// zero.
 mod points;
 
 use layout::Kind;
-use layout::Shape;
 ghost use mathlib.Core.Path.{_≡_};
-ghost use Prim.Native.Nat.{ℕ, _<_};
-ghost use lib.ListN.{getD};
+ghost use Prim.Native.Nat.{_≤_};
+ghost use lib.ListN.{length};
 ghost use Rattle.ground.specs.Answers.{Decides};
-ghost use Rattle.octets.specs.Codes.{bitOf};
-ghost use Rattle.limits.specs.Limits.{ShapeInFields, numbersOf, widthsOf, Within};
+ghost use Rattle.code_cells.specs.Shapes.{kindIn};
+ghost use Rattle.limits.specs.Limits.{CellsInFields, numbersIn, largestOf, Within};
 
-pub fn in_fields(shape: Shape) -> bool
-    ensures { λ r. ⌜ Decides r (ShapeInFields shape) ⌝ }
+pub fn in_fields(codes: &[u32], kind: Kind) -> bool
+    requires { ⌜ 61 ≤ length (now codes) ⌝ }
+    requires { ⌜ kind ≡ kindIn (now codes) ⌝ }
+    ensures { λ r. ⌜ Decides r (CellsInFields (now (codes .entry))) ⌝ }
 {
-    let kind = shape.kind;
-    if !within(numbers_of(shape), widths_of(kind)) {
+    if !within(numbers_in(codes), largest_of(kind)) {
         return false;
     }
-    let latitudes = shape.latitudes;
-    let longitudes = shape.longitudes;
-    points::within(latitudes, longitudes, shape.count)
+    let count = codes[1] as usize;
+    points::within(codes, count)
 }
 
-// The width of each field, polygon points aside: uncertainty, semi-major, semi-minor, orientation, altitude uncertainty,
-// confidence; inner radius, offset, included; count; altitude, D; S, latitude, longitude.
-fn widths_of(kind: Kind) -> [u32; 15]
-    ensures { λ r. ⌜ r ≡ widthsOf kind ⌝ }
+// The number in each field that is no polygon point's, in the order of the cells.
+fn numbers_in(codes: &[u32]) -> [u32; 16]
+    requires { ⌜ 61 ≤ length (now codes) ⌝ }
+    ensures { λ r. ⌜ r ≡ numbersIn (now (codes .entry)) ⌝ }
 {
-    match kind {
-        Kind::Nothing => [0; 15],
-        Kind::Point => [0, 0, 0, 0, 0, 0, 0, 0, 0, 0, 0, 0, 1, 23, 24],
-        Kind::Circle => [7, 0, 0, 0, 0, 0, 0, 0, 0, 0, 0, 0, 1, 23, 24],
-        Kind::Ellipse => [0, 7, 7, 8, 0, 7, 0, 0, 0, 0, 0, 0, 1, 23, 24],
-        Kind::Polygon => [0, 0, 0, 0, 0, 0, 0, 0, 0, 4, 0, 0, 0, 0, 0],
-        Kind::AltitudePoint => [0, 0, 0, 0, 0, 0, 0, 0, 0, 0, 15, 1, 1, 23, 24],
-        Kind::AltitudeEllipsoid => [0, 7, 7, 8, 7, 7, 0, 0, 0, 0, 15, 1, 1, 23, 24],
-        Kind::Arc => [7, 0, 0, 0, 0, 7, 16, 8, 8, 0, 0, 0, 1, 23, 24],
-    }
-}
-
-// The number in each of these fields.
-fn numbers_of(shape: Shape) -> [u32; 15]
-    ensures { λ r. ⌜ r ≡ numbersOf shape ⌝ }
-{
-    let altitude = shape.altitude.1;
-    let uncertainty = shape.uncertainty.0;
-    let semi_major = shape.semi_major.0;
-    let semi_minor = shape.semi_minor.0;
-    let orientation = shape.orientation.0;
-    let altitude_uncertainty = shape.altitude_uncertainty.0;
-    let confidence = shape.confidence.0;
-    let inner_radius = shape.inner_radius.0;
-    let offset = shape.offset.0;
-    let included = shape.included.0;
-    let count = shape.count;
     [
-        uncertainty as u32,
-        semi_major as u32,
-        semi_minor as u32,
-        orientation as u32,
-        altitude_uncertainty as u32,
-        confidence as u32,
-        inner_radius as u32,
-        offset as u32,
-        included as u32,
-        count as u32,
-        altitude as u32,
-        bit(shape.altitude.0),
-        bit(shape.latitude.0),
-        shape.latitude.1,
-        storing::complement_of(shape.longitude),
+        codes[0],
+        codes[1],
+        codes[2],
+        codes[3],
+        storing::complement_of(cells::longitude_of(codes[4])),
+        codes[5],
+        codes[6],
+        codes[7],
+        codes[8],
+        codes[9],
+        codes[10],
+        codes[11],
+        codes[12],
+        codes[13],
+        codes[14],
+        codes[15],
     ]
 }
 
-fn bit(sign: bool) -> u32
-    ensures { λ r. ⌜ r ≡ bitOf sign ⌝ }
+// The largest number that each of these fields holds: type, count, S, latitude, longitude, D, altitude, uncertainty, semi-major,
+// semi-minor, orientation, altitude uncertainty, inner radius, offset, included, confidence.
+fn largest_of(kind: Kind) -> [u32; 16]
+    ensures { λ r. ⌜ r ≡ largestOf kind ⌝ }
 {
-    if sign {
-        return 1;
+    match kind {
+        Kind::Nothing => [0; 16],
+        Kind::Point => [15, 0, 1, 8388607, 16777215, 0, 0, 0, 0, 0, 0, 0, 0, 0, 0, 0],
+        Kind::Circle => [
+            15,
+            0,
+            1,
+            8388607,
+            16777215,
+            0,
+            0,
+            127,
+            0,
+            0,
+            0,
+            0,
+            0,
+            0,
+            0,
+            0,
+        ],
+        Kind::Ellipse => [
+            15,
+            0,
+            1,
+            8388607,
+            16777215,
+            0,
+            0,
+            0,
+            127,
+            127,
+            255,
+            0,
+            0,
+            0,
+            0,
+            127,
+        ],
+        Kind::Polygon => [15, 15, 0, 0, 0, 0, 0, 0, 0, 0, 0, 0, 0, 0, 0, 0],
+        Kind::AltitudePoint => [
+            15,
+            0,
+            1,
+            8388607,
+            16777215,
+            1,
+            32767,
+            0,
+            0,
+            0,
+            0,
+            0,
+            0,
+            0,
+            0,
+            0,
+        ],
+        Kind::AltitudeEllipsoid => [
+            15,
+            0,
+            1,
+            8388607,
+            16777215,
+            1,
+            32767,
+            0,
+            127,
+            127,
+            255,
+            127,
+            0,
+            0,
+            0,
+            127,
+        ],
+        Kind::Arc => [
+            15,
+            0,
+            1,
+            8388607,
+            16777215,
+            0,
+            0,
+            127,
+            0,
+            0,
+            0,
+            0,
+            65535,
+            255,
+            255,
+            127,
+        ],
     }
-    0
 }
 
-fn within(numbers: [u32; 15], widths: [u32; 15]) -> bool
-    requires { ⌜ ((i : ℕ) → getD widths i 0 < 32) ⌝ }
-    ensures { λ r. ⌜ Decides r (Within numbers widths) ⌝ }
+// Every number is compared whatever the others are, so that the compiler takes them together.
+fn within(numbers: [u32; 16], largest: [u32; 16]) -> bool
+    ensures { λ r. ⌜ Decides r (Within numbers largest) ⌝ }
 {
+    let mut all = true;
     let mut i = 0;
-    while i < 15 {
-        if numbers[i] >> widths[i] != 0 {
-            return false;
+    while i < 16 {
+        if largest[i] < numbers[i] {
+            all = false;
         }
         i += 1;
     }
-    true
+    all
 }

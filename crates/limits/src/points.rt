@@ -1,19 +1,36 @@
-// Whether the codes of points are within their fields.
-use ground::LatitudeCode;
-use ground::LongitudeCode;
+// Whether the numbers of points are within their fields.
+ghost use Prim.Native.Nat.{_+_, _*_, _≤_};
+ghost use lib.ListN.{length};
 ghost use Rattle.ground.specs.Answers.{Decides};
-ghost use Rattle.limits.specs.Limits.{PointWithin, PointsWithin};
+ghost use Rattle.limits.specs.Limits.{PointsWithin, UsedWithin, NoneFrom};
 
 // Whether the first n points are within their fields, and the others zero.
-pub fn within(latitudes: [LatitudeCode; 15], longitudes: [LongitudeCode; 15], n: u8) -> bool
-    ensures { λ r. ⌜ Decides r (PointsWithin latitudes longitudes n) ⌝ }
+pub fn within(codes: &[u32], n: usize) -> bool
+    requires { ⌜ 61 ≤ length (now codes) ⌝ }
+    requires { ⌜ n ≤ 15 ⌝ }
+    ensures { λ r. ⌜ Decides r (PointsWithin (now (codes .entry)) n) ⌝ }
 {
-    let used = n as usize;
+    if !used_within(codes, n) {
+        return false;
+    }
+    none_from(codes, 16 + 3 * n)
+}
+
+fn used_within(codes: &[u32], n: usize) -> bool
+    requires { ⌜ 61 ≤ length (now codes) ⌝ }
+    requires { ⌜ n ≤ 15 ⌝ }
+    ensures { λ r. ⌜ Decides r (UsedWithin (now (codes .entry)) n) ⌝ }
+{
     let mut i = 0;
-    while i < 15 {
-        let latitude = latitudes[i];
-        let longitude = longitudes[i];
-        if !point_within(i < used, latitude, longitude) {
+    while i < n {
+        let at = 16 + 3 * i;
+        if 1 < codes[at] {
+            return false;
+        }
+        if 8388607 < codes[at + 1] {
+            return false;
+        }
+        if 16777215 < storing::complement_of(cells::longitude_of(codes[at + 2])) {
             return false;
         }
         i += 1;
@@ -21,26 +38,19 @@ pub fn within(latitudes: [LatitudeCode; 15], longitudes: [LongitudeCode; 15], n:
     true
 }
 
-fn point_within(used: bool, latitude: LatitudeCode, longitude: LongitudeCode) -> bool
-    ensures { λ r. ⌜ Decides r (PointWithin used latitude longitude) ⌝ }
+// Every cell is looked at whatever the others are, as the numbers of fields are.
+fn none_from(codes: &[u32], first: usize) -> bool
+    requires { ⌜ 61 ≤ length (now codes) ⌝ }
+    requires { ⌜ first ≤ 61 ⌝ }
+    ensures { λ r. ⌜ Decides r (NoneFrom (now (codes .entry)) first) ⌝ }
 {
-    if used {
-        if 8388608 <= latitude.1 {
-            return false;
+    let mut all = true;
+    let mut at = first;
+    while at < 61 {
+        if codes[at] != 0 {
+            all = false;
         }
-        if 16777216 <= storing::complement_of(longitude) {
-            return false;
-        }
-        return true;
+        at += 1;
     }
-    if latitude.0 {
-        return false;
-    }
-    if latitude.1 != 0 {
-        return false;
-    }
-    if longitude.0 != 0 {
-        return false;
-    }
-    true
+    all
 }

@@ -1,12 +1,10 @@
 // Octets to a shape's record: document 01, "Octet layouts" and "Refusal numbers".
-mod answers;
-
 use ground::Outcome;
 use ground::Refusal;
 use layout::Kind;
 use layout::ShapeRead;
 ghost use Rattle.layout.specs.Shapes.{ReadsShape};
-ghost use Rattle.reading.specs.Reading.{RefusedWith};
+ghost use Rattle.forming.specs.Forming.{RefusedWith};
 
 // The record in a message, or the refusal. Each octet is looked at once; 5 and 6 are judged on the record, in which a code
 // that its kind has no field for is 0.
@@ -19,11 +17,11 @@ pub fn read_shape(s: &[u8]) -> ShapeRead
     let first = octets::octet(s, 0);
     let kind = layout::kind_of(first / 16);
     let n = first % 16;
-    if let Outcome::Refused(why) = answers::outcome(s.len(), kind, n) {
+    if let Outcome::Refused(why) = forming::form(s.len(), kind, n) {
         return refused(why);
     }
     let shape = fetching::shape(s, kind, n);
-    if let Outcome::Refused(why) = layout::codes_outcome(
+    if let Outcome::Refused(why) = forming::codes_outcome(
         shape.orientation.0,
         shape.offset.0,
         shape.included.0,

@@ -1,31 +1,41 @@
--- The two parts of the answer.
-use Rattle.layout.specs.Shapes.{rowsOf, valueOf}
-use Rattle.judging.proofs.DemandLaws.{whole, refused}
+-- The codes, then the fields. Assumes nothing.
+use mathlib.Core.Path.{refl}
+use borrow.Author.Needs.{needs}
+use Rattle.ground.specs.Answers.{unmet, met}
+use Rattle.ground.proofs.AnswerLaws.{shown, refuted}
+use Rattle.judging.proofs.DemandLaws.{whole, codes-refused}
 use Rattle.judging.proofs.outcome.Statement.{statement}
 use Rattle.judging.proofs.outcome.Tie as tie
 
-codes-requires : tie.Need-codes-requires
-codes-requires c κs = tt
-
-enum-told : tie.Need-enum-told
-enum-told c = c .match .keys1
-
-fitted-requires : tie.Need-fitted-requires
-fitted-requires c κs = tt
+codes-outcome-requires : tie.Need-codes-outcome-requires
+codes-outcome-requires c κs = search needs
 
 enum-known-why : tie.Need-enum-known-why
-enum-known-why c = c .match .keys2
+enum-known-why c = search needs
 
 returns : tie.Need-returns
-returns c =
-    let a = c .before .before .before .before .args in
-    whole (rowsOf (a .shape)) (valueOf (a .shape)) (a .room) _ (rw (c .before .enum-told .given .1) at (c .before .before .before .codes .ensures)) (c .fitted .ensures)
+returns c = codes-refused (c .before .why .given .0 .0) (rw (c .before .why .given .1) at (c .before .before .before .codes-outcome .ensures))
+
+enum-told : tie.Need-enum-told
+enum-told c = search needs
+
+in-fields-requires : tie.Need-in-fields-requires
+in-fields-requires c κs = search needs
 
 returns-2 : tie.Need-returns-2
-returns-2 c =
-    let a = c .before .before .before .before .args in
-    refused (rowsOf (a .shape)) (valueOf (a .shape)) (a .room) (c .before .why .given .0 .0) (rw (c .before .why .given .1) at (c .before .before .before .codes .ensures))
+returns-2 c = whole (rw (c .before .before .enum-told .given .1) at (c .before .before .before .before .codes-outcome .ensures)) (unmet (refuted (c .before .in-fields .result) (c .if1 .taken) (c .before .in-fields .ensures)) refl)
+
+returns-3 : tie.Need-returns-3
+returns-3 c = whole (rw (c .before .before .enum-told .given .1) at (c .before .before .before .before .codes-outcome .ensures)) (met (shown (c .before .in-fields .result) (c .if1 .left) (c .before .in-fields .ensures)) refl)
 
 pub outcome-spec : {M : Type 1} → statement M
 outcome-spec =
-    tie.close (tie.spec codes-requires enum-told fitted-requires enum-known-why returns returns-2)
+    tie.close
+    (tie.spec
+    codes-outcome-requires
+    enum-known-why
+    returns
+    enum-told
+    in-fields-requires
+    returns-2
+    returns-3)

@@ -4,7 +4,7 @@ use mathlib.Core.Path.{refl}
 use native.Mathlib.Omega.{arith}
 use denote.Ref.{now}
 use Rattle.ground.specs.Answers.{unmet}
-use Rattle.reading.proofs.ReadLaws.{refused-read, Starts, starts, form-refused, of-length, codes-refused, done-read}
+use Rattle.forming.proofs.ReadLaws.{refused-read, Starts, starts, form-refused, of-length, codes-refused, done-read}
 use borrow.Author.Needs.{needs}
 use Rattle.reading.proofs.read_shape.Statement.{statement}
 use Rattle.reading.proofs.read_shape.Tie as tie
@@ -25,8 +25,8 @@ octet-requires c κs = search needs
 kind-of-requires : tie.Need-kind-of-requires
 kind-of-requires c κs = search needs
 
-outcome-requires : tie.Need-outcome-requires
-outcome-requires c κs = search needs
+form-requires : tie.Need-form-requires
+form-requires c κs = search needs
 
 enum-known-why : tie.Need-enum-known-why
 enum-known-why c = search needs
@@ -35,13 +35,13 @@ refused-requires-2 : tie.Need-refused-requires-2
 refused-requires-2 c κs = search needs
 
 returns-2 : tie.Need-returns-2
-returns-2 c = form-refused _ _ _ (first (c .before .before .before .before .before)) _ (c .before .before .before .before .outcome .ensures) _ _ (c .before .before .why .given .1) (c .refused2 .ensures)
+returns-2 c = form-refused _ _ _ (first (c .before .before .before .before .before)) _ (c .before .before .before .before .form .ensures) _ _ (c .before .before .why .given .1) (c .refused2 .ensures)
 
 enum-told : tie.Need-enum-told
 enum-told c = search needs
 
 shape-requires : tie.Need-shape-requires
-shape-requires c κs = (first (c .before .before .before) .count, of-length _ _ _ (first (c .before .before .before)) _ (c .before .before .outcome .ensures) (c .enum-told .given .1))
+shape-requires c κs = (first (c .before .before .before) .count, of-length _ _ _ (first (c .before .before .before)) _ (c .before .before .form .ensures) (c .enum-told .given .1))
 
 codes-outcome-requires : tie.Need-codes-outcome-requires
 codes-outcome-requires c κs = search needs
@@ -53,13 +53,13 @@ refused-requires-3 : tie.Need-refused-requires-3
 refused-requires-3 c κs = search needs
 
 returns-3 : tie.Need-returns-3
-returns-3 c = codes-refused _ _ _ (first (c .before .before .before .before .before .before .before .before .before)) _ (c .before .before .before .before .before .before .before .before .outcome .ensures) _ (c .before .before .before .before .before .before .enum-told .given .1) (c .before .before .before .before .before .shape .ensures) _ (c .before .before .before .before .codes-outcome .ensures) _ _ (c .before .before .why2 .given .1) (c .refused3 .ensures)
+returns-3 c = codes-refused _ _ _ (first (c .before .before .before .before .before .before .before .before .before)) _ (c .before .before .before .before .before .before .before .before .form .ensures) _ (c .before .before .before .before .before .before .enum-told .given .1) (c .before .before .before .before .before .shape .ensures) _ (c .before .before .before .before .codes-outcome .ensures) _ _ (c .before .before .why2 .given .1) (c .refused3 .ensures)
 
 enum-told-2 : tie.Need-enum-told-2
 enum-told-2 c = search needs
 
 returns-4 : tie.Need-returns-4
-returns-4 c = done-read _ _ _ (first (c .before .before .before .before .before .before .before)) _ (c .before .before .before .before .before .before .outcome .ensures) _ (c .before .before .before .before .enum-told .given .1) (c .before .before .before .shape .ensures) _ (c .before .before .codes-outcome .ensures) (c .enum-told2 .given .1)
+returns-4 c = done-read _ _ _ (first (c .before .before .before .before .before .before .before)) _ (c .before .before .before .before .before .before .form .ensures) _ (c .before .before .before .before .enum-told .given .1) (c .before .before .before .shape .ensures) _ (c .before .before .codes-outcome .ensures) (c .enum-told2 .given .1)
 
 pub read-shape-spec : {M : Type 1} → statement M
 read-shape-spec =
@@ -69,7 +69,7 @@ read-shape-spec =
     returns
     octet-requires
     kind-of-requires
-    outcome-requires
+    form-requires
     enum-known-why
     refused-requires-2
     returns-2

@@ -1,0 +1,2 @@
+mod AnswerKinds
+pub mod ReadLaws

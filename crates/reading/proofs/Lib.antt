@@ -1,2 +1,0 @@
-pub mod AnswerKinds
-pub mod ReadLaws
