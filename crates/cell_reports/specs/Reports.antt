@@ -1,21 +1,19 @@
 -- REPORTING the record that cells say: one that the writer would refuse, room given, is refused with the same number. Assumes nothing.
 use mathlib.Core.Path.{_≡_}
 use mathlib.Core.List.{List, _++_}
-use Prim.Native.Nat.{ℕ, _<_}
+use Prim.Native.Nat.{ℕ}
 use lib.IntN.{ℤ}
-use lib.ListN.{length, getD, drop}
+use lib.ListN.{length, drop}
 use lib.Seq.{sets}
-use Rattle.ground.specs.Answers.{outcomeNumber, handed, done}
+use Rattle.ground.specs.Answers.{outcomeNumber, handed}
 use Rattle.ground.specs.declared.quantities.Nanodegrees.{Nanodegrees}
 use Rattle.ground.specs.declared.refusals.Outcome.{Outcome}
-use Rattle.fields.specs.Fields.{Reporting}
-use Rattle.fields.specs.Fields as field
 use Rattle.layout.specs.Rows.{lengthOf}
 use Rattle.layout.specs.Demands.{WriteAnswer}
-use Rattle.layout.specs.Shapes.{zeroLatitude, zeroLongitude}
 use Rattle.quantities.specs.declared.shapes.ShapeReported.{ShapeReported}
 use Rattle.quantities.specs.Promises.{Given}
-use Rattle.quantities.specs.Shapes.{zeroDegrees, QuantitiesOf, noShape}
+use Rattle.quantities.specs.Shapes.{QuantitiesOf, noShape}
+use Rattle.spoken_shapes.specs.Points.{LatitudesReported, LongitudesReported}
 use Rattle.cells.specs.Answers.{givenRoom}
 use Rattle.code_cells.specs.Shapes.{rowsIn, valueIn, recordIn}
 use Rattle.quantity_cells.specs.Shapes.{pointCells, quantityCells}
@@ -35,6 +33,6 @@ pub record ReportsInto (cells : List ℕ) (before after : List ℤ) (left : Outc
 pub record PutsPoints (cells : List ℕ) (n : ℕ) (before after : List ℤ) : Type 0 where
   pub latitudes : List Nanodegrees
   pub longitudes : List Nanodegrees
-  pub told-latitudes : (i : ℕ) → i < n → Reporting field.latitude (getD (recordIn cells .latitudes) i zeroLatitude) (done (getD latitudes i zeroDegrees))
-  pub told-longitudes : (i : ℕ) → i < n → Reporting field.longitude (getD (recordIn cells .longitudes) i zeroLongitude) (done (getD longitudes i zeroDegrees))
+  pub told-latitudes : LatitudesReported (recordIn cells .latitudes) n latitudes
+  pub told-longitudes : LongitudesReported (recordIn cells .longitudes) n longitudes
   pub put : after ≡ sets before 14 (pointCells latitudes longitudes n)

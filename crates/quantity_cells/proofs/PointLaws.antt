@@ -6,12 +6,14 @@ use native.Mathlib.Nat.{add-zero, add-suc}
 use native.Mathlib.Omega.{arith}
 use native.Mathlib.Numerals.{add-one}
 use lib.IntN.{ℤ, pos}
-use lib.ListN.{length, length-append, set, getD, replicate, replicate-append-replicate}
-use lib.Seq.{sets}
+use lib.ListN.{length, length-append, set, getD, drop, replicate, replicate-append-replicate}
+use lib.Seq.{sets, sets-eq}
 use Rattle.ground.specs.declared.quantities.Nanodegrees.{Nanodegrees}
+use Rattle.quantities.specs.declared.shapes.ShapeQuantities.{ShapeQuantities}
 use Rattle.quantities.specs.Shapes.{zeroDegrees}
+use Rattle.cells.proofs.CopyLaws.{sets-after}
 use Rattle.ground.proofs.ListLaws.{sets-append}
-use Rattle.quantity_cells.specs.Shapes.{pointCells}
+use Rattle.quantity_cells.specs.Shapes.{singleCells, pointCells, quantityCells}
 
 module _ (latitudes longitudes : List Nanodegrees) where
   length-points : (n : ℕ) → length (pointCells latitudes longitudes n) ≡ 2 * n
@@ -54,9 +56,17 @@ module _ (latitudes longitudes : List Nanodegrees) where
         ap (pointCells latitudes longitudes) (sym d) ∙ zeros-after (15 - n) ∙ ap (λ (k : ℕ). pointCells latitudes longitudes n ++ replicate k (pos 0)) w
 
     -- the points, and zeros after them, are the fifteen
-    pub points-put : n ≤ 15 → (l : List ℤ) → sets (sets l 14 (pointCells latitudes longitudes n)) (14 + 2 * n) (replicate (30 - 2 * n) (pos 0)) ≡ sets l 14 (pointCells latitudes longitudes 15)
+    points-put : n ≤ 15 → (l : List ℤ) → sets (sets l 14 (pointCells latitudes longitudes n)) (14 + 2 * n) (replicate (30 - 2 * n) (pos 0)) ≡ sets l 14 (pointCells latitudes longitudes 15)
     points-put m l =
         let zeros : List ℤ = replicate (30 - 2 * n) (pos 0) in
         ap (λ (k : ℕ). sets (sets l 14 (pointCells latitudes longitudes n)) (14 + k) zeros) (sym (length-points n))
         ∙ sets-append l 14 (pointCells latitudes longitudes n) zeros
         ∙ ap (λ (t : List ℤ). sets l 14 t) (sym (all-points m))
+
+-- the cells before the points, the first n points, and zeros after them, are the quantities' cells
+pub quantities-put : (q : ShapeQuantities) (n : ℕ) → ((i : ℕ) → n ≤ i → getD (q .latitudes) i zeroDegrees ≡ zeroDegrees) → ((i : ℕ) → n ≤ i → getD (q .longitudes) i zeroDegrees ≡ zeroDegrees) → n ≤ 15 → (o : List ℤ) → 44 ≤ length o
+    → sets (sets (sets o 0 (singleCells q)) 14 (pointCells (q .latitudes) (q .longitudes) n)) (14 + 2 * n) (replicate (30 - 2 * n) (pos 0)) ≡ quantityCells q ++ drop 44 o
+quantities-put q n no-latitude no-longitude m o h =
+    points-put (q .latitudes) (q .longitudes) n no-latitude no-longitude m (sets o 0 (singleCells q))
+    ∙ ap (λ (l : List ℤ). sets l 14 (pointCells (q .latitudes) (q .longitudes) 15)) (sets-eq (singleCells q) o 0 (omega arith))
+    ∙ sets-after (singleCells q) (pointCells (q .latitudes) (q .longitudes) 15) o refl refl h
