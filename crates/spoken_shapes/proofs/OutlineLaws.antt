@@ -4,6 +4,7 @@ use mathlib.Core.Path.{_≡_, refl, sym, _∙_}
 use mathlib.Core.Bool.{true}
 use mathlib.Core.List.{List}
 use native.Mathlib.Omega.{arith}
+use lib.ListN.{replicate}
 use Rattle.ground.specs.Answers.{done}
 use Rattle.ground.specs.declared.quantities.Nanodegrees.{Nanodegrees}
 use Rattle.fields.specs.Fields.{Reporting}
@@ -12,7 +13,7 @@ use Rattle.layout.specs.Layout.{Field, shapeRows}
 use Rattle.layout.specs.Layout as layout
 use Rattle.layout.specs.Rows.{widthOf}
 use Rattle.layout.specs.Demands.{Used}
-use Rattle.layout.specs.Shapes.{rowsOf}
+use Rattle.layout.specs.Shapes.{rowsOf, zeroLatitude, zeroLongitude}
 use Rattle.layout.proofs.KindLaws.{pointsOf, fixed-width}
 use Rattle.trips.proofs.WidthLaws.{shapeWidest, shape-width}
 use Rattle.quantities.specs.declared.shapes.ShapeQuantities.{ShapeQuantities}
@@ -68,6 +69,48 @@ withPoints q latitudes′ longitudes′ = record {
   longitudes = longitudes′;
 }
 
+-- a record without its points
+abbrev pub pointless : Shape → Shape
+pointless x = record {
+  kind = x .kind;
+  latitude = x .latitude;
+  longitude = x .longitude;
+  altitude = x .altitude;
+  uncertainty = x .uncertainty;
+  «semi_major» = x .«semi_major»;
+  «semi_minor» = x .«semi_minor»;
+  orientation = x .orientation;
+  «altitude_uncertainty» = x .«altitude_uncertainty»;
+  confidence = x .confidence;
+  «inner_radius» = x .«inner_radius»;
+  offset = x .offset;
+  included = x .included;
+  count = x .count;
+  latitudes = replicate 15 zeroLatitude;
+  longitudes = replicate 15 zeroLongitude;
+}
+
+-- its outline is the record's
+pub outline-of : (x : Shape) (q : ShapeQuantities) → OutlineReported (pointless x) q → OutlineReported x q
+outline-of x q h = record {
+  kinds = h .kinds;
+  counts = h .counts;
+  latitudes = h .latitudes;
+  longitudes = h .longitudes;
+  altitudes = h .altitudes;
+  uncertainties = h .uncertainties;
+  semi-majors = h .semi-majors;
+  semi-minors = h .semi-minors;
+  orientations = h .orientations;
+  altitude-uncertainties = h .altitude-uncertainties;
+  confidences = h .confidences;
+  inner-radii = h .inner-radii;
+  offsets = h .offsets;
+  includeds = h .includeds;
+  no-latitudes = h .no-latitudes;
+  no-longitudes = h .no-longitudes;
+}
+
 module _ (x : Shape) (t : TakesShape x) where
   pub outline-held : OutlineHeld x
   outline-held = record {
@@ -82,6 +125,21 @@ module _ (x : Shape) (t : TakesShape x) where
     confidences = shape-held x t confidence;
     offsets = shape-held x t offset;
     includeds = shape-held x t included;
+  }
+
+  pub pointless-held : OutlineHeld (pointless x)
+  pointless-held = record {
+    latitudes = outline-held .latitudes;
+    longitudes = outline-held .longitudes;
+    altitudes = outline-held .altitudes;
+    uncertainties = outline-held .uncertainties;
+    semi-majors = outline-held .semi-majors;
+    semi-minors = outline-held .semi-minors;
+    orientations = outline-held .orientations;
+    altitude-uncertainties = outline-held .altitude-uncertainties;
+    confidences = outline-held .confidences;
+    offsets = outline-held .offsets;
+    includeds = outline-held .includeds;
   }
 
   module _ (q₀ : ShapeQuantities) (outline : OutlineReported x q₀) {latitudes′ longitudes′ : List Nanodegrees}

@@ -1,53 +1,56 @@
+-- The outline's quantities are put, then those of the points, then zeros.
+use native.Mathlib.Omega.{arith}
+use Rattle.judging.proofs.RoomLaws.{taken}
+use Rattle.cell_reports.proofs.ReportLaws.{few-points, points-within, held, report-too-short, report-put}
 use borrow.Author.Needs.{needs}
 use Rattle.cell_reports.proofs.report_taken.Statement.{statement}
 use Rattle.cell_reports.proofs.report_taken.Tie as tie
-use Rattle.cell_reports.proofs.report_taken.Reads as reads
-use Rattle.cell_reports.proofs.report_taken.Lts as lts
-use Rattle.cell_reports.proofs.points.put.Reads as put-reads
-use Rattle.code_cells.proofs.outline_in.Reads as outline-in-reads
-use Rattle.quantity_cells.proofs.clear_from.Reads as clear-from-reads
-use Rattle.quantity_cells.proofs.put_singles.Reads as put-singles-reads
-use Rattle.spoken_shapes.proofs.outline.Reads as outline-reads
 
--- src/lib.rt:34:9
 returns : tie.Need-returns
-returns c = ?
+returns c =
+    let start = c .before .before in
+    report-too-short (start .args .codes .now) (start .pre .1 .1) (search needs)
 
--- src/lib.rt:36:17
 shared-slice-read-count : tie.Need-shared-slice-read-count
 shared-slice-read-count c = search needs
 
--- src/lib.rt:36:17
 cast-count : tie.Need-cast-count
-cast-count c = ?
+cast-count c =
+    let start = c .before .before .before in
+    record { fits = omega (arith, few-points (start .args .codes .now) (start .pre .1 .1)) }
 
--- src/lib.rt:37:9
 outline-in-requires : tie.Need-outline-in-requires
-outline-in-requires c κs = ?
+outline-in-requires c κs =
+    let start = c .before .before .before in
+    (start .pre .0, (start .pre .1 .0, taken (start .pre .1 .1) .fields))
 
--- src/lib.rt:39:38
 outline-requires : tie.Need-outline-requires
-outline-requires c κs = ?
+outline-requires c κs =
+    let start = c .before .before .before .before .before in
+    held (start .args .codes .now) (start .pre .1 .1) (c .before .outline-in .ensures)
 
--- src/lib.rt:39:5
 put-singles-requires : tie.Need-put-singles-requires
 put-singles-requires c κs = search needs
 
--- src/lib.rt:40:5
 put-requires : tie.Need-put-requires
-put-requires c κs = ?
+put-requires c κs =
+    let start = c .before .before .before .before .before .before .before .before .before in
+    (search needs, (start .pre .0, (few-points (start .args .codes .now) (start .pre .1 .1), points-within (start .args .codes .now) (start .pre .1 .1) _)))
 
--- src/lib.rt:41:5
 clear-from-requires : tie.Need-clear-from-requires
-clear-from-requires c κs = ?
+clear-from-requires c κs =
+    let start = c .before .before .before .before .before .before .before .before .before .before .before .before in
+    (search needs, few-points (start .args .codes .now) (start .pre .1 .1))
 
--- src/lib.rt:27:1
 same-length : tie.Need-same-length
 same-length c = search needs
 
--- src/lib.rt:27:1
 returns-2 : tie.Need-returns-2
-returns-2 c = ?
+returns-2 c =
+    let start = c .before .before .before .before .before .before .before .before .before .before .before .before .before .before in
+    report-put (start .args .codes .now) (start .pre .1 .1) (c .before .before .before .before .before .before .before .before .before .before .outline-in .ensures) (c .before .before .before .before .before .before .before .before .outline .result) (c .before .before .before .before .before .before .before .before .outline .ensures) (start .args .out .now) (search needs)
+    (rw (c .before .before .before .before .before .before .before .put-singles .ensures) at (c .before .before .before .before .put .ensures))
+    (c .before .clear-from .ensures)
 
 pub report-taken-spec : {M : Type 1} → statement M
 report-taken-spec =

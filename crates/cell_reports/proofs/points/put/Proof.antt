@@ -9,11 +9,6 @@ use Rattle.cell_reports.specs.Reports.{PutsPoints}
 use Rattle.cell_reports.proofs.PointLaws.{latitude-held, latitude-is, longitude-held, longitude-is, none-put, one-put}
 use Rattle.cell_reports.proofs.points.put.Statement.{statement}
 use Rattle.cell_reports.proofs.points.put.Tie as tie
-use Rattle.cell_reports.proofs.points.put.Reads as reads
-use Rattle.cell_reports.proofs.points.put.Lts as lts
-use Rattle.cells.proofs.longitude_of.Reads as longitude-of-reads
-use Rattle.spoken.proofs.latitude.Reads as latitude-reads
-use Rattle.spoken.proofs.longitude.Reads as longitude-reads
 
 abbrev Inv-loop : tie.InvT-loop
 Inv-loop out₀ codes n end i₀ out i = (i ≤ n) × PutsPoints codes i out₀ out × (length out ≡ length out₀)
@@ -46,7 +41,9 @@ shared-slice-read-t18 : tie.Need-shared-slice-read-t18 Inv-loop μ-loop
 shared-slice-read-t18 c = search needs
 
 latitude-requires : tie.Need-latitude-requires Inv-loop μ-loop
-latitude-requires c κs = latitude-held (c .before .before .before .before .before .args .codes .now) (c .before .before .before .loop .i) (search needs) (c .before .before .before .before .before .pre .1 .1 .1 (c .before .before .before .loop .i) (search needs))
+latitude-requires c κs =
+    let start = c .before .before .before .before .before in
+    latitude-held (start .args .codes .now) (c .before .before .before .loop .i) (search needs) (start .pre .1 .1 .1 (c .before .before .before .loop .i) (search needs))
 
 add-longitude-of : tie.Need-add-longitude-of Inv-loop μ-loop
 add-longitude-of c = search needs
@@ -61,7 +58,9 @@ longitude-of-requires : tie.Need-longitude-of-requires Inv-loop μ-loop
 longitude-of-requires c κs = search needs
 
 longitude-requires : tie.Need-longitude-requires Inv-loop μ-loop
-longitude-requires c κs = longitude-held (c .before .before .before .before .before .before .before .before .args .codes .now) (c .before .before .before .before .before .before .loop .i) (search needs) (c .before .before .before .before .before .before .before .before .pre .1 .1 .1 (c .before .before .before .before .before .before .loop .i) (search needs)) (c .longitude-of .ensures)
+longitude-requires c κs =
+    let start = c .before .before .before .before .before .before .before .before in
+    longitude-held (start .args .codes .now) (c .before .before .before .before .before .before .loop .i) (search needs) (start .pre .1 .1 .1 (c .before .before .before .before .before .before .loop .i) (search needs)) (c .longitude-of .ensures)
 
 mul-north : tie.Need-mul-north Inv-loop μ-loop
 mul-north c = search needs
@@ -94,16 +93,16 @@ loop-less : tie.Need-loop-less Inv-loop μ-loop
 loop-less c = search needs
 
 loop-again : tie.Need-loop-again Inv-loop μ-loop
-loop-again c = 
-    let codes = c .before .before .before .before .before .before .before .before .before .before .before .args .codes .now in
+loop-again c =
+    let start = c .before .before .before .before .before .before .before .before .before .before .before in
+    let codes = start .args .codes .now in
     let l = c .before .before .before .before .before .before .before .before .before .loop in
     let few : l .i < 15 = search needs in
-    let within = c .before .before .before .before .before .before .before .before .before .before .before .pre .1 .1 .1 (l .i) (search needs) in
-    (
+    let within = start .pre .1 .1 .1 (l .i) (search needs) in (
       search needs,
       one-put codes (l .inv .1) few (latitude-is codes (l .i) few within) (longitude-is codes (l .i) few within (c .before .before .before .longitude-of .ensures)) (c .before .before .before .before .before .latitude .result) (c .before .before .longitude .result) (c .before .before .before .before .before .latitude .ensures) (c .before .before .longitude .ensures)
-      (stored refl (search needs))
-      (stored refl (search needs)),
+          (stored refl (search needs))
+          (stored refl (search needs)),
       simp length-set (l .inv .2),
     )
 
