@@ -25,8 +25,8 @@ use Rattle.quantities.proofs.HeldLaws.{turn-held}
 use Rattle.spoken_shapes.proofs.FillLaws.{none-filled, one-more}
 use Rattle.cells.specs.Codes.{cellAt, fromBits}
 use Rattle.code_cells.specs.Shapes.{valueIn, recordIn}
+use Rattle.code_cells.proofs.CellLaws.{south-cell, latitude-cell, longitude-cell}
 use Rattle.limits.specs.Limits.{PointWithin}
-use Rattle.limits.proofs.CellLaws.{south-cell, latitude-cell, longitude-cell}
 use Rattle.quantity_cells.specs.Shapes.{pointCells}
 use Rattle.quantity_cells.proofs.PointLaws.{same-points, point-more}
 use Rattle.cell_reports.specs.Reports.{PutsPoints}

@@ -107,20 +107,10 @@ module _ (z : ℤ) (f : SFits w32 z) (e : ltZ (toZ w32 (ofZ w32 z)) (pos 0) ≡ 
 
 -- ---- a quantity by its sign and its size
 
-least : (z : ℤ) → SFits w64 z → natAbs z ≡ 9223372036854775808 → z ≡ missing
-least (pos n) f e = absurd (omega arith)
-least (negsuc n) f e = let q : n ≡ 9223372036854775807 = omega arith in ap negsuc q
-
-pub missing-by : (z : ℤ) → SFits w64 z → Decides (eqb (natAbs z) 9223372036854775808) (z ≡ missing)
-missing-by z f = decided (eqb (natAbs z) 9223372036854775808) (least z f) (ap natAbs) (eqb-decides (natAbs z) 9223372036854775808)
-
-pub negative-not : (z : ℤ) → isNegative z ≡ true → Natural32 z → ⊥
-negative-not (pos n) e h = absurd (subst T (sym e) tt)
-negative-not (negsuc n) e h = h
-
-pub natural-by : (z : ℤ) → isNegative z ≡ false → Decides (ltb (natAbs z) 4294967296) (Natural32 z)
-natural-by (pos n) e = ltb-decides n 4294967296
-natural-by (negsuc n) e = absurd (subst T e tt)
+-- nothing is below the least number of 64 bits
+least : (z : ℤ) → SFits w64 z → ltZ missing z ≡ false → z ≡ missing
+least (pos n) f e = absurd (subst T e tt)
+least (negsuc n) f e = let q : n ≡ 9223372036854775807 = omega (arith, f .sfits, ltb-false n 9223372036854775807 e) in ap negsuc q
 
 pub natural-is : (z : ℤ) → Natural32 z → natAbs z ≡ naturalOf z
 natural-is (pos n) h = simp (lt-ltb n 4294967296 h)
@@ -138,16 +128,27 @@ natural-none (pos n) h = by (ltb n 4294967296) (ltb-decides n 4294967296)
     by false d = simp (le-ltb n 4294967296 (omega arith))
 natural-none (negsuc n) h = refl
 
-pub minus-by : (z : ℤ) → isNegative z ≡ true → Decides (leb (natAbs z) 2147483648) (Signed32 z)
-minus-by (pos n) e = absurd (subst T (sym e) tt)
-minus-by (negsuc n) e =
-    decided (leb (suc n) 2147483648) (λ h. omega arith) (λ h. omega arith) (leb-decides (suc n) 2147483648)
-
-pub plus-by : (z : ℤ) → isNegative z ≡ false → Decides (ltb (natAbs z) 2147483648) (Signed32 z)
-plus-by (pos n) e = ltb-decides n 2147483648
-plus-by (negsuc n) e = absurd (subst T e tt)
-
 -- ---- a quantity between two bounds
+
+below-zero : (z : ℤ) → ltZ z (pos 0) ≡ true → Natural32 z → ⊥
+below-zero (pos n) e h = let l : n < 0 = ltb-true n 0 e in omega arith
+below-zero (negsuc n) e h = h
+
+natural-small : (z : ℤ) → ltZ z (pos 0) ≡ false → ltZ z (pos 4294967296) ≡ true → Natural32 z
+natural-small (pos n) e h = ltb-true n 4294967296 h
+natural-small (negsuc n) e h = absurd (subst T e tt)
+
+natural-large : (z : ℤ) → ltZ z (pos 4294967296) ≡ false → Natural32 z → ⊥
+natural-large (pos n) e h = omega (arith, ltb-false n 4294967296 e)
+natural-large (negsuc n) e h = h
+
+signed-small : (z : ℤ) → ltZ z (negsuc 2147483647) ≡ false → ltZ z (pos 2147483648) ≡ true → mag z < 2147483648
+signed-small (pos n) e h = ltb-true n 2147483648 h
+signed-small (negsuc n) e h = omega (arith, ltb-false 2147483647 n e)
+
+signed-large : (z : ℤ) → ltZ z (pos 2147483648) ≡ false → 2147483648 ≤ mag z
+signed-large (pos n) e = ltb-false n 2147483648 e
+signed-large (negsuc n) e = absurd (subst T e tt)
 
 too-low : (z : ℤ) → ltZ z (negsuc 2147483647) ≡ true → 2147483648 ≤ mag z
 too-low (pos n) e = absurd (subst T (sym e) tt)
@@ -165,6 +166,30 @@ none : (z : ℤ) → 2147483648 ≤ mag z → pos 0 ≡ signedOf z
 none z h = simp (le-ltb (mag z) 2147483648 h)
 
 module _ (z : ℤ) (f : SFits w64 z) where
+  pub is-least : ltZ missing (toZ w64 (ofZ w64 z)) ≡ false → z ≡ missing
+  is-least e = least z f (rw (toZ-ofZ f) at e)
+
+  pub above-least : ltZ missing (toZ w64 (ofZ w64 z)) ≡ true → z ≡ missing → ⊥
+  above-least e h = absurd (subst T (sym (ap (ltZ missing) (sym h) ∙ (rw (toZ-ofZ f) at e))) tt)
+
+  pub not-negative : ltZ (toZ w64 (ofZ w64 z)) (pos 0) ≡ true → Natural32 z → ⊥
+  not-negative e = below-zero z (rw (toZ-ofZ f) at e)
+
+  pub natural-within : ltZ (toZ w64 (ofZ w64 z)) (pos 0) ≡ false → ltZ (toZ w64 (ofZ w64 z)) (pos 4294967296) ≡ true → Natural32 z
+  natural-within e h = natural-small z (rw (toZ-ofZ f) at e) (rw (toZ-ofZ f) at h)
+
+  pub natural-beyond : ltZ (toZ w64 (ofZ w64 z)) (pos 4294967296) ≡ false → Natural32 z → ⊥
+  natural-beyond e = natural-large z (rw (toZ-ofZ f) at e)
+
+  pub signed-under : ltZ (toZ w64 (ofZ w64 z)) (negsuc 2147483647) ≡ true → Signed32 z → ⊥
+  signed-under e h = omega (arith, too-low z (rw (toZ-ofZ f) at e))
+
+  pub signed-within : ltZ (toZ w64 (ofZ w64 z)) (negsuc 2147483647) ≡ false → ltZ (toZ w64 (ofZ w64 z)) (pos 2147483648) ≡ true → Signed32 z
+  signed-within e h = signed-small z (rw (toZ-ofZ f) at e) (rw (toZ-ofZ f) at h)
+
+  pub signed-beyond : ltZ (toZ w64 (ofZ w64 z)) (pos 2147483648) ≡ false → Signed32 z → ⊥
+  signed-beyond e h = omega (arith, signed-large z (rw (toZ-ofZ f) at e))
+
   pub signed-low : ltZ (toZ w64 (ofZ w64 z)) (negsuc 2147483647) ≡ true → pos 0 ≡ signedOf z
   signed-low e = none z (too-low z (rw (toZ-ofZ f) at e))
 

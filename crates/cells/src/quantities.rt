@@ -21,19 +21,25 @@ pub fn missing() -> Whole
 pub fn is_missing(cell: Whole) -> bool
     ensures { λ r. ⌜ Decides r (cell .0 ≡ missing) ⌝ }
 {
-    let parts = ground::taken_apart(cell);
-    parts.size == 9223372036854775808
+    let x = cell.0;
+    if -9223372036854775808 < x {
+        return false;
+    }
+    true
 }
 
 // Whether 32 bits without a sign hold the number, and the number, 0 where they don't.
 pub fn is_natural(cell: Whole) -> bool
     ensures { λ r. ⌜ Decides r (Natural32 (cell .0)) ⌝ }
 {
-    let parts = ground::taken_apart(cell);
-    if parts.negative {
+    let x = cell.0;
+    if x < 0 {
         return false;
     }
-    parts.size < 4294967296
+    if x < 4294967296 {
+        return true;
+    }
+    false
 }
 
 pub fn natural(cell: Whole) -> u32
@@ -50,11 +56,14 @@ pub fn natural(cell: Whole) -> u32
 pub fn is_signed(cell: Whole) -> bool
     ensures { λ r. ⌜ Decides r (Signed32 (cell .0)) ⌝ }
 {
-    let parts = ground::taken_apart(cell);
-    if parts.negative {
-        return parts.size <= 2147483648;
+    let x = cell.0;
+    if x < -2147483648 {
+        return false;
     }
-    parts.size < 2147483648
+    if x < 2147483648 {
+        return true;
+    }
+    false
 }
 
 pub fn signed(cell: Whole) -> Narrow

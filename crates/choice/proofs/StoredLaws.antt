@@ -12,8 +12,8 @@ use Rattle.layout.specs.declared.shapes.Kind.the-variants.{Polygon}
 use Rattle.layout.specs.Layout.{Row, shapeRows, typeOf}
 use Rattle.layout.specs.Rows.{lengthOf}
 use Rattle.layout.specs.Shapes.{rowsOf, valueOf}
-use Rattle.writing.specs.Storing.{rest, Storable}
-use Rattle.writing.proofs.StoreLaws.{run-stored, fixed-message, start-room}
+use Rattle.composing.specs.Composing.{rest, Storable}
+use Rattle.composing.proofs.StoreLaws.{run-stored, fixed-message, start-room}
 use Rattle.requests.specs.declared.codes.Wanted.{Wanted}
 use Rattle.requests.specs.Choice.{TakesPart}
 use Rattle.requests.specs.Codes.{Tame, messageOf, recordOf}

@@ -10,7 +10,7 @@ ghost use Rattle.layout.specs.Layout.{shapeRows};
 ghost use Rattle.layout.specs.Rows.{lengthOf};
 ghost use Rattle.requests.specs.Choice.{TakesPart};
 ghost use Rattle.requests.specs.Codes.{Tame, messageOf, recordOf};
-ghost use Rattle.writing.specs.Storing.{rest};
+ghost use Rattle.composing.specs.Composing.{rest};
 
 // Stores the message.
 pub fn put(out: &mut [u8], kind: Kind, wanted: Wanted)

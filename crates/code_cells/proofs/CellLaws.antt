@@ -1,5 +1,5 @@
 -- The first 61 cells, the kind of their type, and what their numbers are where each is within its field. Assumes nothing.
-use Prim.Native.Nat.{ℕ, _^_, _≤_, _<_}
+use Prim.Native.Nat.{ℕ, suc, _+_, _*_, _^_, _≤_, _<_}
 use mathlib.Core.Path.{_≡_, refl, sym, ap, _∙_}
 use mathlib.Core.Bool.{Bool, true, false, cond}
 use mathlib.Core.List.{List}
@@ -10,7 +10,7 @@ use lib.Seq.{getD-take}
 use borrow.Author.Tests.{ltb-true, ltb-false}
 use Rattle.octets.specs.Codes.{complement, fromComplement}
 use Rattle.octets.proofs.ComplementLaws.{complement-back}
-use Rattle.layout.specs.Layout.{Field, count, longitude}
+use Rattle.layout.specs.Layout.{Field, count, south, latitude, longitude}
 use Rattle.layout.specs.Demands.{InFields}
 use Rattle.layout.specs.Shapes.{kindOf}
 use Rattle.layout.proofs.TypeLaws.{no-kind}
@@ -36,6 +36,19 @@ module _ (cells : List ℕ) where
 
   pub no-cell : (i : ℕ) → 61 ≤ i → 0 ≡ cellAt (take 61 cells) i
   no-cell i h = sym (List·getD-eq-default (take 61 cells) 0 {n = i} (rw (length-take 61 cells) (omega arith)))
+
+  -- ---- a point's three numbers in its cells
+
+  pub south-cell : (i : ℕ) → i < 15 → valueIn cells (south (suc i)) ≡ cellAt cells (16 + 3 * i)
+  south-cell i h = sym (same-cell (16 + 3 * i) (omega arith))
+
+  pub latitude-cell : (i : ℕ) → i < 15 → valueIn cells (latitude (suc i)) ≡ cellAt cells (16 + 3 * i + 1)
+  latitude-cell i h = let e : 17 + 3 * i ≡ 16 + 3 * i + 1 = omega arith in sym (same-cell (17 + 3 * i) (omega arith)) ∙ ap (cellAt cells) e
+
+  pub longitude-cell : (i : ℕ) → i < 15 → valueIn cells (longitude (suc i)) ≡ complement (fromBits (cellAt cells (16 + 3 * i + 2)))
+  longitude-cell i h =
+      let e : 18 + 3 * i ≡ 16 + 3 * i + 2 = omega arith in
+      ap (λ (n : ℕ). complement (fromBits n)) (sym (same-cell (18 + 3 * i) (omega arith)) ∙ ap (cellAt cells) e)
 
   pub same-kind : kindOf (capped 255 (cellAt cells 0)) ≡ kindIn cells
   same-kind = kind-capped (cellAt cells 0) ∙ ap kindOf (same-cell 0 (omega arith))

@@ -1,3 +1,3 @@
 pub mod CellLaws
-pub mod PointLaws
 pub mod CellRecords
+pub mod PointLaws

@@ -12,7 +12,9 @@ use Rattle.layout.specs.Layout.{Field, Row, count, orientation, offset, include
 use Rattle.layout.specs.Rows.{tag, widthOf}
 use Rattle.layout.specs.Demands.{Listed, CountSound, AnglesSound, ConfidenceSound, InFields, CodesAnswer}
 use Rattle.layout.proofs.PolygonLaws.{polygon-length, none-found}
+use Rattle.cells.specs.Codes.{cellAt}
 use Rattle.code_cells.specs.Shapes.{kindIn, rowsIn, valueIn}
+use Rattle.code_cells.proofs.CellLaws.{same-cell}
 use Rattle.judging.specs.Judging.{RecordAnswer, CodesAnswerOf, CountAnswer}
 
 -- ---- any rows
@@ -49,19 +51,19 @@ module _ (rows : List Row) (value : Field → ℕ) where
 
 -- ---- each kind
 
--- the answer of the functions that are called for a kind
-abbrev pub KindAnswer : Kind → (Field → ℕ) → ℕ → Type 0
-KindAnswer Nothing value m = m ≡ 2
-KindAnswer Point value m = m ≡ 0
-KindAnswer Circle value m = m ≡ 0
-KindAnswer Ellipse value m = CodesAnswer (value orientation) 0 0 (value confidence) m
-KindAnswer Polygon value m = CountAnswer (value count) m
-KindAnswer AltitudePoint value m = m ≡ 0
-KindAnswer AltitudeEllipsoid value m = CodesAnswer (value orientation) 0 0 (value confidence) m
-KindAnswer Arc value m = CodesAnswer 0 (value offset) (value included) (value confidence) m
+-- the answer that is given for a kind, by its count, orientation, offset, included and confidence
+abbrev pub KindAnswer : Kind → ℕ → ℕ → ℕ → ℕ → ℕ → ℕ → Type 0
+KindAnswer Nothing n a b c d m = m ≡ 2
+KindAnswer Point n a b c d m = m ≡ 0
+KindAnswer Circle n a b c d m = m ≡ 0
+KindAnswer Ellipse n a b c d m = CodesAnswer a 0 0 d m
+KindAnswer Polygon n a b c d m = CountAnswer n m
+KindAnswer AltitudePoint n a b c d m = m ≡ 0
+KindAnswer AltitudeEllipsoid n a b c d m = CodesAnswer a 0 0 d m
+KindAnswer Arc n a b c d m = CodesAnswer 0 b c d m
 
 module _ (n : ℕ) (value : Field → ℕ) where
-  pub kind-codes : (k : Kind) (m : ℕ) → KindAnswer k value m → CodesAnswerOf (shapeRows k n) value m
+  pub kind-codes : (k : Kind) (m : ℕ) → KindAnswer k (value count) (value orientation) (value offset) (value included) (value confidence) m → CodesAnswerOf (shapeRows k n) value m
   kind-codes Nothing m h = unmet (λ l. absurd (omega arith)) h
   kind-codes Point m h = rw h (plain (shapeRows Point n) value (omega arith) refl refl refl refl refl refl)
   kind-codes Circle m h = rw h (plain (shapeRows Circle n) value (omega arith) refl refl refl refl refl refl)
@@ -81,9 +83,11 @@ module _ (n : ℕ) (value : Field → ℕ) where
       (λ p. record { orientations = unused (shapeRows Arc n) value orientation refl; offsets = λ _. p .1; includeds = λ _. p .2; bearings = unused (shapeRows Arc n) value bearing refl })
       (λ s. (omega arith, s .offsets (omega arith), s .includeds (omega arith))) (omega arith) h
 
-pub cells-codes : (cells : List ℕ) {kind k : Kind} {m : ℕ} → kind ≡ kindIn cells → kind ≡ k → KindAnswer k (valueIn cells) m → CodesAnswerOf (rowsIn cells) (valueIn cells) m
+-- and for the kind that cells say, by their numbers
+pub cells-codes : (cells : List ℕ) {kind k : Kind} {m : ℕ} → kind ≡ kindIn cells → kind ≡ k → KindAnswer k (cellAt cells 1) (cellAt cells 10) (cellAt cells 13) (cellAt cells 14) (cellAt cells 15) m → CodesAnswerOf (rowsIn cells) (valueIn cells) m
 cells-codes cells {k = k} {m = m} e f h =
-    subst (λ (k : Kind). CodesAnswerOf (shapeRows k (valueIn cells count)) (valueIn cells) m) (sym f ∙ e) (kind-codes (valueIn cells count) (valueIn cells) k m h)
+    subst (λ (k : Kind). CodesAnswerOf (shapeRows k (valueIn cells count)) (valueIn cells) m) (sym f ∙ e)
+    (kind-codes (valueIn cells count) (valueIn cells) k m (rw (same-cell cells 1 (omega arith), same-cell cells 10 (omega arith), same-cell cells 13 (omega arith), same-cell cells 14 (omega arith), same-cell cells 15 (omega arith)) at h))
 
 -- ---- any record's answer
 

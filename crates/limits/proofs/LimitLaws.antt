@@ -48,7 +48,7 @@ use Rattle.layout.proofs.MessageLaws.{Position}
 use Rattle.cells.specs.Codes.{cellAt, fromBits}
 use Rattle.code_cells.specs.Shapes.{valueIn, kindIn}
 use Rattle.limits.specs.Limits.{CellsInFields, singleFields, numbersIn, largestOf, Within, NoneFrom, PointsWithin}
-use Rattle.limits.proofs.CellLaws.{same-cell, no-cell, south-cell, latitude-cell, longitude-cell}
+use Rattle.code_cells.proofs.CellLaws.{same-cell, no-cell, south-cell, latitude-cell, longitude-cell}
 
 -- ---- widths that don't depend on the count
 
@@ -183,7 +183,7 @@ module _ (k : Kind) (n : ℕ) (value : Field → ℕ) where
     points-within i l = record { sign = point-number 0 i l; size = point-number 1 i l; turn = point-number 2 i l }
 
     -- and the others
-    pub no-number : (r i : ℕ) → pointsOf k n ≤ i → value (point-row r i .field) ≡ 0
+    no-number : (r i : ℕ) → pointsOf k n ≤ i → value (point-row r i .field) ≡ 0
     no-number r i l = omega (arith, rw (no-bits k n r i l) at (h .each (point-row r i .field)))
 
   -- ---- and back

@@ -30,6 +30,10 @@ fromComplement v = cond (ltb v 8388608) (pos v) (negsuc (16777215 - v))
 abbrev pub latitudeBits : LatitudeCode → ℕ
 latitudeBits c = bitOf (c .0) * 8388608 + c .1
 
+-- D and N of an altitude, of 16 bits
+abbrev pub levelBits : AltitudeCode → ℕ
+levelBits c = bitOf (c .0) * 32768 + c .1
+
 -- the codes whose first bit is `first`
 abbrev pub latitudeIn : List ℕ → ℕ → LatitudeCode
 latitudeIn s first = record { 0 = signOf (bits s first 1); 1 = bits s (first + 1) 23 }
@@ -45,4 +49,4 @@ abbrev pub position : LatitudeCode → LongitudeCode → List ℕ
 position latitude longitude = octets 3 (latitudeBits latitude) ++ octets 3 (complement (longitude .0))
 
 abbrev pub level : AltitudeCode → List ℕ
-level c = octets 2 (bitOf (c .0) * 32768 + c .1)
+level c = octets 2 (levelBits c)

@@ -1,6 +1,6 @@
 // Uncertainty codes and their reported radii: K covers every whole millimetre up to r(K), or h(K) for an altitude
-// (document 01, "Quantities and codes"). A table is laid on the stack where it is used, so zero, which is also what a type without the
-// field has, goes without one.
+// (document 01, "Quantities and codes"). A function that uses a table lays it on the stack first, so zero, which is also what a type
+// without the field has, is answered before such a function is called.
 mod tables;
 
 use ground::AltitudeUncertaintyCode;
@@ -30,10 +30,16 @@ pub enum RadiusReported {
 pub fn uncertainty_code(radius: Millimetres) -> UncertaintyCoded
     ensures { λ r. ⌜ CodedUncertainty radius r ⌝ }
 {
-    let x = radius.0;
-    if x == 0 {
+    if radius.0 == 0 {
         return UncertaintyCoded::Code(UncertaintyCode(0));
     }
+    found_in_radii(radius)
+}
+
+fn found_in_radii(radius: Millimetres) -> UncertaintyCoded
+    ensures { λ r. ⌜ CodedUncertainty radius r ⌝ }
+{
+    let x = radius.0;
     if RADII[127] < x {
         return UncertaintyCoded::Refused(Refusal::UncertaintyTooLarge);
     }
@@ -56,10 +62,16 @@ pub fn reported_uncertainty(code: UncertaintyCode) -> RadiusReported
 pub fn altitude_uncertainty_code(height: Millimetres) -> AltitudeUncertaintyCoded
     ensures { λ r. ⌜ CodedAltitudeUncertainty height r ⌝ }
 {
-    let x = height.0;
-    if x == 0 {
+    if height.0 == 0 {
         return AltitudeUncertaintyCoded::Code(AltitudeUncertaintyCode(0));
     }
+    found_in_heights(height)
+}
+
+fn found_in_heights(height: Millimetres) -> AltitudeUncertaintyCoded
+    ensures { λ r. ⌜ CodedAltitudeUncertainty height r ⌝ }
+{
+    let x = height.0;
     if HEIGHTS[127] < x {
         return AltitudeUncertaintyCoded::Refused(Refusal::UncertaintyTooLarge);
     }

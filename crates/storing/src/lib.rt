@@ -1,4 +1,5 @@
-// Numbers and codes stored as octets in a lent buffer, high octet first.
+// Numbers and codes stored as octets in a lent buffer, high octet first. A sign is made a part of its number before that is stored, so
+// that the compiler needs no branch for it, which a processor could not guess.
 use ground::AltitudeCode;
 use ground::LatitudeCode;
 use ground::LongitudeCode;
@@ -8,7 +9,7 @@ ghost use Prim.Native.Nat.{_+_, _<_, _≤_};
 ghost use lib.ListN.{length};
 ghost use lib.Seq.{sets};
 ghost use Rattle.octets.specs.Bits.{octets};
-ghost use Rattle.octets.specs.Codes.{complement, latitudeBits, position, level};
+ghost use Rattle.octets.specs.Codes.{complement, latitudeBits, levelBits, position, level};
 
 // Stores one octet.
 pub fn put_octet(out: &mut [u8], at: usize, n: u8)
@@ -43,11 +44,18 @@ pub fn put_latitude(out: &mut [u8], at: usize, latitude: LatitudeCode)
     requires { ⌜ latitude .1 < 8388608 ⌝ }
     ensures { λ _. ⌜ now (out .exit) ≡ sets (now (out .entry)) at (octets 3 (latitudeBits latitude)) ⌝ }
 {
+    put_three(out, at, latitude_bits(latitude));
+}
+
+// The number of 24 bits that a sign and a latitude make.
+fn latitude_bits(latitude: LatitudeCode) -> u32
+    requires { ⌜ latitude .1 < 8388608 ⌝ }
+    ensures { λ r. ⌜ r ≡ latitudeBits latitude ⌝ }
+{
     if latitude.0 {
-        put_three(out, at, 8388608 + latitude.1);
-        return;
+        return 8388608 + latitude.1;
     }
-    put_three(out, at, latitude.1);
+    latitude.1
 }
 
 // The number of 24 bits that stands for a longitude, or 2^24 where there is none.
@@ -58,10 +66,10 @@ pub fn complement_of(longitude: LongitudeCode) -> u32
     if n < -8388608 {
         return 16777216;
     }
-    if n < 0 {
-        return (n + 16777216) as u32;
-    }
     if n < 8388608 {
+        if n < 0 {
+            return (n + 16777216) as u32;
+        }
         return n as u32;
     }
     16777216
@@ -84,11 +92,18 @@ pub fn put_altitude(out: &mut [u8], at: usize, altitude: AltitudeCode)
     requires { ⌜ altitude .1 < 32768 ⌝ }
     ensures { λ _. ⌜ now (out .exit) ≡ sets (now (out .entry)) at (level altitude) ⌝ }
 {
+    put_word(out, at, level_bits(altitude));
+}
+
+// The number of 16 bits that a direction and an altitude make.
+fn level_bits(altitude: AltitudeCode) -> u16
+    requires { ⌜ altitude .1 < 32768 ⌝ }
+    ensures { λ r. ⌜ r ≡ levelBits altitude ⌝ }
+{
     if altitude.0 {
-        put_word(out, at, 32768 + altitude.1);
-        return;
+        return 32768 + altitude.1;
     }
-    put_word(out, at, altitude.1);
+    altitude.1
 }
 
 // Stores four octets.

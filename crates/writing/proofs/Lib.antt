@@ -1,2 +1,1 @@
-pub mod DemandLaws
-pub mod StoreLaws
+pub mod CellLaws

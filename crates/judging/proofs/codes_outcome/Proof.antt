@@ -1,8 +1,6 @@
 -- Each kind by its law. Assumes nothing.
 use mathlib.Core.Path.{refl}
-use native.Mathlib.Omega.{arith}
 use borrow.Author.Needs.{needs}
-use Rattle.limits.proofs.CellLaws.{same-cell}
 use Rattle.judging.proofs.DemandLaws.{cells-codes}
 use Rattle.judging.proofs.codes_outcome.Statement.{statement}
 use Rattle.judging.proofs.codes_outcome.Tie as tie
@@ -77,27 +75,19 @@ returns-3 : tie.Need-returns-3
 returns-3 c = cells-codes (c .before .before .before .args .codes .now) (c .before .before .before .pre .1) (c .enum-told3 .given .1) refl
 
 returns-4 : tie.Need-returns-4
-returns-4 c =
-    let cells = c .before .before .before .before .before .before .args .codes .now in
-    cells-codes cells (c .before .before .before .before .before .before .pre .1) (c .before .before .before .enum-told4 .given .1) (rw (same-cell cells 10 (omega arith), same-cell cells 15 (omega arith)) at (c .codes-outcome .ensures))
+returns-4 c = cells-codes (c .before .before .before .before .before .before .args .codes .now) (c .before .before .before .before .before .before .pre .1) (c .before .before .before .enum-told4 .given .1) (c .codes-outcome .ensures)
 
 returns-5 : tie.Need-returns-5
-returns-5 c =
-    let cells = c .before .before .before .before .before .args .codes .now in
-    cells-codes cells (c .before .before .before .before .before .pre .1) (c .before .before .enum-told5 .given .1) (rw (same-cell cells 1 (omega arith)) at (c .count .ensures))
+returns-5 c = cells-codes (c .before .before .before .before .before .args .codes .now) (c .before .before .before .before .before .pre .1) (c .before .before .enum-told5 .given .1) (c .count .ensures)
 
 returns-6 : tie.Need-returns-6
 returns-6 c = cells-codes (c .before .before .before .args .codes .now) (c .before .before .before .pre .1) (c .enum-told6 .given .1) refl
 
 returns-7 : tie.Need-returns-7
-returns-7 c =
-    let cells = c .before .before .before .before .before .before .args .codes .now in
-    cells-codes cells (c .before .before .before .before .before .before .pre .1) (c .before .before .before .enum-told7 .given .1) (rw (same-cell cells 10 (omega arith), same-cell cells 15 (omega arith)) at (c .codes-outcome2 .ensures))
+returns-7 c = cells-codes (c .before .before .before .before .before .before .args .codes .now) (c .before .before .before .before .before .before .pre .1) (c .before .before .before .enum-told7 .given .1) (c .codes-outcome2 .ensures)
 
 returns-8 : tie.Need-returns-8
-returns-8 c =
-    let cells = c .before .before .before .before .before .before .before .args .codes .now in
-    cells-codes cells (c .before .before .before .before .before .before .before .pre .1) (c .before .before .before .before .enum-told8 .given .1) (rw (same-cell cells 13 (omega arith), same-cell cells 14 (omega arith), same-cell cells 15 (omega arith)) at (c .codes-outcome3 .ensures))
+returns-8 c = cells-codes (c .before .before .before .before .before .before .before .args .codes .now) (c .before .before .before .before .before .before .before .pre .1) (c .before .before .before .before .enum-told8 .given .1) (c .codes-outcome3 .ensures)
 
 pub codes-outcome-spec : {M : Type 1} → statement M
 codes-outcome-spec =

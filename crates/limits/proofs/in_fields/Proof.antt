@@ -6,7 +6,7 @@ use Rattle.ground.proofs.AnswerLaws.{shown, refuted, decided}
 use Rattle.layout.specs.Layout.{count}
 use Rattle.code_cells.specs.Shapes.{kindIn, valueIn}
 use Rattle.limits.specs.Limits.{numbersIn, largestOf, Within}
-use Rattle.limits.proofs.CellLaws.{same-cell}
+use Rattle.code_cells.proofs.CellLaws.{same-cell}
 use Rattle.limits.proofs.LimitLaws.{count-narrow, singles-within, cells-points, cells-in-fields}
 use Rattle.limits.proofs.in_fields.Statement.{statement}
 use Rattle.limits.proofs.in_fields.Tie as tie

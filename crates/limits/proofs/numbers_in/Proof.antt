@@ -6,7 +6,7 @@ use native.Mathlib.Omega.{arith}
 use borrow.Author.Needs.{needs}
 use Rattle.octets.specs.Codes.{complement}
 use Rattle.cells.specs.Codes.{fromBits}
-use Rattle.limits.proofs.CellLaws.{same-cell}
+use Rattle.code_cells.proofs.CellLaws.{same-cell}
 use Rattle.limits.proofs.numbers_in.Statement.{statement}
 use Rattle.limits.proofs.numbers_in.Tie as tie
 

@@ -1,38 +1,48 @@
--- The answer is what `outcome` says, and the message is put where it has octets.
-use native.Mathlib.Omega.{arith}
-use denote.Ref.{now}
-use Rattle.layout.specs.Shapes.{rowsOf, valueOf}
-use Rattle.layout.proofs.WriteLaws.{done-answer, done-writes, refused-writes}
-use Rattle.writing.proofs.DemandLaws.{storable}
+-- The cells of a record say the record, so that what is written of them is written of it.
+use mathlib.Core.Path.{_≡_, refl}
+use mathlib.Core.List.{[], _∷_}
 use borrow.Author.Needs.{needs}
+use native.Mathlib.Omega.{arith}
+use types.Run.{miss}
+use Rattle.layout.specs.declared.shapes.Kind.the-variants.{Nothing}
+use Rattle.writing.proofs.CellLaws.{no-kind, held, writes-said}
 use Rattle.writing.proofs.write_shape.Statement.{statement}
 use Rattle.writing.proofs.write_shape.Tie as tie
 
-outcome-requires : tie.Need-outcome-requires
-outcome-requires c κs = search needs
+enum-told : tie.Need-enum-told
+enum-told c = search needs
 
-written-requires : tie.Need-written-requires
-written-requires c κs = search needs
+returns : tie.Need-returns
+returns c = record { answer = no-kind (c .before .before .before .args .shape) (c .enum-told .given .1) _; written = refl; buffer = refl }
 
-put-requires : tie.Need-put-requires
-put-requires c κs =
-    let a = c .before .before .before .before .before .args in
-    storable (a .shape) _ (done-answer (rowsOf (a .shape)) (valueOf (a .shape)) (now (a .out)) _ (c .before .before .before .outcome .result) (c .before .before .before .outcome .ensures) (c .before .before .written .ensures) (omega (arith, c .before .if1 .taken)))
+cells-of-requires : tie.Need-cells-of-requires
+cells-of-requires c κs = search needs
+
+slice-aggregate-write : tie.Need-slice-aggregate-write
+slice-aggregate-write c = search needs
+
+write-requires : tie.Need-write-requires
+write-requires c κs = rw (c .before .before .cells-of .ensures) (omega arith)
 
 same-length : tie.Need-same-length
 same-length c = search needs
 
-returns : tie.Need-returns
-returns c =
-    let a = c .before .before .before .before .before .before .before .before .args in
-    done-writes (rowsOf (a .shape)) (valueOf (a .shape)) (now (a .out)) _ _ _ (c .before .before .before .before .before .before .outcome .ensures) (c .before .before .before .before .before .written .ensures) (omega (arith, c .before .before .before .before .if1 .taken)) (c .before .before .put .ensures)
+some : (c : tie.At-match-keys2) → c .before .before .args .shape .kind ≡ Nothing → ⊥
+some c e = miss (1 ∷ 2 ∷ 3 ∷ 4 ∷ 5 ∷ 6 ∷ 7 ∷ []) 0 tt (rw e at (c .match .keys2))
 
 returns-2 : tie.Need-returns-2
 returns-2 c =
-    let a = c .before .before .before .before .args in
-    refused-writes (rowsOf (a .shape)) (valueOf (a .shape)) (now (a .out)) _ _ (c .before .before .outcome .ensures) (c .before .written .ensures) (omega (arith, c .if1 .left))
+    let x = c .before .before .before .before .before .before .before .before .args .shape in
+    writes-said x (held x _ (c .before .before .before .before .before .before .before .before .good .1 .0)) (some (c .before .before .before .before .before .before)) (rw (c .before .before .before .before .before .cells-of .ensures) at (c .before .before .write .ensures))
 
 pub write-shape-spec : {M : Type 1} → statement M
 write-shape-spec =
     tie.close
-    (tie.spec outcome-requires written-requires put-requires same-length returns returns-2)
+    (tie.spec
+    enum-told
+    returns
+    cells-of-requires
+    slice-aggregate-write
+    write-requires
+    same-length
+    returns-2)

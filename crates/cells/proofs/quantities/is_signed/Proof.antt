@@ -1,17 +1,17 @@
--- `cells::is_signed` meets its contract, by the number's sign and size. Assumes nothing.
-use Rattle.cells.proofs.NumberLaws.{minus-by, plus-by}
+-- `cells::is_signed` meets its contract, by its two bounds.
+use Rattle.cells.proofs.NumberLaws.{signed-under, signed-within, signed-beyond}
 use borrow.Author.Needs.{needs}
 use Rattle.cells.proofs.quantities.is_signed.Statement.{statement}
 use Rattle.cells.proofs.quantities.is_signed.Tie as tie
 
-taken-apart-requires : tie.Need-taken-apart-requires
-taken-apart-requires c κs = search needs
-
 returns : tie.Need-returns
-returns c = rw (c .before .before .taken-apart .ensures) (minus-by (c .before .before .before .args .cell .0) (rw (c .before .before .taken-apart .ensures) at (c .before .if1 .taken)))
+returns c = signed-under (c .before .before .args .cell .0) (search needs) (c .if1 .taken)
 
 returns-2 : tie.Need-returns-2
-returns-2 c = rw (c .before .before .taken-apart .ensures) (plus-by (c .before .before .before .args .cell .0) (rw (c .before .before .taken-apart .ensures) at (c .before .if1 .left)))
+returns-2 c = signed-within (c .before .before .before .args .cell .0) (search needs) (c .before .if1 .left) (c .if2 .taken)
+
+returns-3 : tie.Need-returns-3
+returns-3 c = signed-beyond (c .before .before .before .args .cell .0) (search needs) (c .if2 .left)
 
 pub is-signed-spec : {M : Type 1} → statement M
-is-signed-spec = tie.close (tie.spec taken-apart-requires returns returns-2)
+is-signed-spec = tie.close (tie.spec returns returns-2 returns-3)

@@ -7,7 +7,7 @@ use lib.ListN.{length-set}
 use lib.Seq.{sets}
 use denote.Ref.{now}
 use Rattle.octets.specs.Codes.{position}
-use Rattle.writing.specs.Storing.{rest}
+use Rattle.composing.specs.Composing.{rest}
 use Rattle.requests.specs.Codes.{recordOf}
 use Rattle.choice.proofs.StoredLaws.{position-room, parts-stored}
 use borrow.Author.Needs.{needs}

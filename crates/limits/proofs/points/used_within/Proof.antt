@@ -6,7 +6,7 @@ use borrow.Author.Needs.{needs}
 use borrow.Author.Count.{below-more}
 use Rattle.octets.specs.Codes.{complement}
 use Rattle.limits.specs.Limits.{UsedWithin}
-use Rattle.limits.proofs.CellLaws.{south-cell, latitude-cell, longitude-cell}
+use Rattle.code_cells.proofs.CellLaws.{south-cell, latitude-cell, longitude-cell}
 use Rattle.limits.proofs.points.used_within.Statement.{statement}
 use Rattle.limits.proofs.points.used_within.Tie as tie
 

@@ -1,0 +1,3 @@
+pub mod CellRecords
+pub mod StoreLaws
+pub mod CellStores

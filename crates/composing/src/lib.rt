@@ -1,0 +1,50 @@
+// The message of the record that a shape's cells say, stored as octets: document 01, "Octet layouts".
+mod messages;
+mod points;
+
+use ground::Outcome;
+use ground::Refusal;
+use layout::Kind;
+use layout::Written;
+ghost use mathlib.Core.Path.{_≡_};
+ghost use Prim.Native.Nat.{_≤_};
+ghost use lib.ListN.{length};
+ghost use Rattle.code_cells.specs.Shapes.{kindIn, rowsIn, valueIn};
+ghost use Rattle.judging.specs.Judging.{RecordAnswer};
+ghost use Rattle.composing.specs.Composing.{WritesCells};
+
+// Writes the message into the first octets of the buffer, or refuses the record and leaves the buffer as it is.
+pub fn write(out: &mut [u8], codes: &[u32]) -> Written
+    requires { ⌜ 61 ≤ length (now codes) ⌝ }
+    ensures { λ r. ⌜ WritesCells (now (codes .entry)) (now (out .entry)) (now (out .exit)) r ⌝ }
+{
+    let kind = code_cells::kind_in(codes);
+    match judging::outcome(codes, kind) {
+        Outcome::Done => write_taken(out, codes, kind),
+        Outcome::Refused(why) => Written {
+            outcome: Outcome::Refused(why),
+            length: 0,
+        },
+    }
+}
+
+// 10, of a record that is taken.
+fn write_taken(out: &mut [u8], codes: &[u32], kind: Kind) -> Written
+    requires { ⌜ 61 ≤ length (now codes) ⌝ }
+    requires { ⌜ kind ≡ kindIn (now codes) ⌝ }
+    requires { ⌜ RecordAnswer (rowsIn (now codes)) (valueIn (now codes)) 0 ⌝ }
+    ensures { λ r. ⌜ WritesCells (now (codes .entry)) (now (out .entry)) (now (out .exit)) r ⌝ }
+{
+    let length = layout::message_length(kind, codes[1] as u8);
+    if out.len() < length {
+        return Written {
+            outcome: Outcome::Refused(Refusal::BufferTooShort),
+            length: 0,
+        };
+    }
+    messages::put(out, codes, kind);
+    Written {
+        outcome: Outcome::Done,
+        length,
+    }
+}
