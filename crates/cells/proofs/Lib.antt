@@ -1,3 +1,4 @@
+pub mod ClearLaws
 pub mod CopyLaws
 pub mod NumberLaws
 pub mod PutLaws

@@ -1,11 +1,11 @@
 -- The fifteen points: their cells put one point after another, and a list of them filled from the front. Assumes nothing.
 use mathlib.Core.Path.{_≡_, refl, sym, ap, _∙_, subst}
-use mathlib.Core.List.{List, [], _∷_, _++_, append-assoc, append-nil}
+use mathlib.Core.List.{List, _++_, append-assoc, append-nil}
 use Prim.Native.Nat.{ℕ, zero, suc, _+_, _-_, _*_, _≤_, _<_}
 use native.Mathlib.Nat.{add-zero, add-suc}
 use native.Mathlib.Numerals.{add-one}
 use native.Mathlib.Omega.{arith}
-use lib.ListN.{length, length-append, getD, set, drop, replicate, length-replicate, replicate-append-replicate}
+use lib.ListN.{length, length-append, getD, set, drop, replicate, replicate-append-replicate}
 use lib.Seq.{sets, sets-eq}
 use Rattle.ground.specs.declared.codes.LatitudeCode.{LatitudeCode}
 use Rattle.ground.specs.declared.codes.LongitudeCode.{LongitudeCode}
@@ -55,20 +55,6 @@ module _ (latitudes : List LatitudeCode) (longitudes : List LongitudeCode) where
         ap (λ (k : ℕ). sets (sets l 16 (pointCells latitudes longitudes n)) (16 + k) zeros) (sym (length-points n))
         ∙ sets-append l 16 (pointCells latitudes longitudes n) zeros
         ∙ ap (λ (t : List ℕ). sets l 16 t) (sym all-points)
-
--- no zero yet
-pub none-cleared : (o : List ℕ) (from : ℕ) → o ≡ sets o from (replicate (from - from) 0)
-none-cleared o from = let k : from - from ≡ 0 = omega arith in rw k
-
--- one zero more
-pub one-cleared : (o out : List ℕ) (from i : ℕ) → from ≤ i → out ≡ sets o from (replicate (i - from) 0) → set out i 0 ≡ sets o from (replicate (i + 1 - from) 0)
-one-cleared o out from i h e =
-    let k : from + length {A = ℕ} (replicate (i - from) 0) ≡ i = omega (arith, length-replicate {A = ℕ} (i - from) 0) in
-    let w : i - from + 1 ≡ i + 1 - from = omega arith in
-    ap (λ (l : List ℕ). set l i 0) e
-    ∙ ap (λ (j : ℕ). sets (sets o from (replicate (i - from) 0)) j (0 ∷ [])) (sym k)
-    ∙ sets-append o from (replicate (i - from) 0) (0 ∷ [])
-    ∙ ap (λ (t : List ℕ). sets o from t) (replicate-append-replicate (i - from) 1 0 ∙ ap (λ (m : ℕ). replicate m 0) w)
 
 -- a list of fifteen of which the first i are filled
 module _ {A : Type 0} (f : ℕ → A) (z : A) {l : List A} {i : ℕ} (e : l ≡ upto i f ++ replicate (15 - i) z) where

@@ -1,34 +1,21 @@
--- The record that cells say has the cells' own numbers, where its type is listed and each number is within its field. Assumes
--- nothing.
-use Prim.Native.Nat.{ℕ, suc, _+_, _*_, _≤_, _<_}
-use mathlib.Core.Path.{_≡_, refl, sym, ap, _∙_}
+-- A point of the record that cells say, where its numbers are within their fields. Assumes nothing.
+use Prim.Native.Nat.{ℕ, suc, _+_, _*_, _<_}
+use mathlib.Core.Path.{_≡_, refl, ap, _∙_}
 use mathlib.Core.List.{List}
 use native.Mathlib.Omega.{arith}
 use lib.ListN.{getD, take}
 use Rattle.ground.specs.declared.codes.LongitudeCode.{LongitudeCode}
 use Rattle.octets.specs.Codes.{signOf, complement, position}
 use Rattle.octets.proofs.ComplementLaws.{complement-again}
-use Rattle.layout.specs.Layout.{Field, typeNumber, count, south, latitude, longitude}
-use Rattle.layout.specs.Demands.{Listed, InFields}
-use Rattle.layout.specs.Shapes.{rowsOf, valueOf, latitudeOf, longitudeOf, zeroLatitude, zeroLongitude}
-use Rattle.trips.proofs.ShapeRecords.{at-upto, values-of}
-use Rattle.trips.proofs.ShapeTrips.{type-back}
+use Rattle.layout.specs.Layout.{south, latitude, longitude}
+use Rattle.layout.specs.Shapes.{latitudeOf, longitudeOf, zeroLatitude, zeroLongitude}
+use Rattle.trips.proofs.ShapeRecords.{at-upto}
 use Rattle.cells.specs.Codes.{cellAt, fromBits}
-use Rattle.code_cells.specs.Shapes.{kindIn, rowsIn, valueIn, recordIn}
+use Rattle.code_cells.specs.Shapes.{valueIn, recordIn}
 use Rattle.limits.specs.Limits.{PointWithin}
-use Rattle.code_cells.proofs.CellLaws.{same-cell, no-cell, number}
+use Rattle.code_cells.proofs.CellLaws.{same-cell}
 
 module _ (cells : List ℕ) where
-  -- no cell is of a point after the fifteenth
-  no-point : (i : ℕ) → 15 ≤ i → (valueIn cells (south (suc i)) ≡ 0) × (valueIn cells (latitude (suc i)) ≡ 0) × (valueIn cells (longitude (suc i)) ≡ 0)
-  no-point i h = (
-    sym (no-cell cells (16 + 3 * i) (omega arith)),
-    sym (no-cell cells (17 + 3 * i) (omega arith)),
-    sym (ap (λ (n : ℕ). complement (fromBits n)) (no-cell cells (18 + 3 * i) (omega arith))),
-  )
-
-  -- ---- a point that is within its fields
-
   module _ (i : ℕ) (l : i < 15) (within : PointWithin cells i) where
     cell : (at n : ℕ) → at ≡ n → n < 61 → cellAt cells at ≡ cellAt (take 61 cells) n
     cell at n e h = ap (cellAt cells) e ∙ same-cell cells n h
@@ -52,13 +39,3 @@ module _ (cells : List ℕ) where
         let a = at-upto (λ j. latitudeOf (valueIn cells) (suc j)) 15 i zeroLatitude l in
         let o = at-upto (λ j. longitudeOf (valueIn cells) (suc j)) 15 i zeroLongitude l in
         rw (a, o, complement-again (valueIn cells (longitude (suc i))) (within .turn), e, sign, size, turn)
-
-  -- ---- the record
-
-  pub record-rows : rowsOf (recordIn cells) ≡ rowsIn cells
-  record-rows = refl
-
-  module _ (listed : Listed (rowsIn cells)) (fields : InFields (rowsIn cells) (valueIn cells)) where
-    pub record-values : (f : Field) → valueOf (recordIn cells) f ≡ valueIn cells f
-    record-values =
-        values-of (kindIn cells) (valueIn cells) (type-back (valueIn cells typeNumber) (valueIn cells count) listed) (number cells fields) no-point

@@ -19,7 +19,7 @@ use Rattle.limits.specs.Limits.{UsedWithin}
 use Rattle.code_cells.proofs.CellLaws.{same-cell, number}
 use Rattle.limits.proofs.LimitLaws.{points-within}
 use Rattle.composing.specs.Composing.{positions, rest, restOf, RestFits, Storable, stored}
-use Rattle.composing.proofs.CellRecords.{record-values}
+use Rattle.code_cells.proofs.CellRecords.{record-values}
 use Rattle.composing.proofs.StoreLaws.{run-stored, fixed-message, points-message}
 
 -- only a polygon's length depends on the count

@@ -59,7 +59,7 @@ bounded rows value f most h some used = by (ltb 0 (widthOf rows f)) refl
         let l : value f < 2 ^ 0 = rw w at (h .each f) in
         omega arith
 
-turn-held : (z : ℤ) → complement z < 16777216 → mag z < 8388608
+pub turn-held : (z : ℤ) → complement z < 16777216 → mag z < 8388608
 turn-held (pos n) h = by (ltb n 8388608) refl
   where
     by : (b : Bool) → ltb n 8388608 ≡ b → n < 8388608

@@ -3,7 +3,8 @@ mod numbers;
 mod shapes;
 mod velocities;
 
-pub use shapes::put_shape_quantities;
+pub use shapes::clear_from;
+pub use shapes::put_singles;
 pub use shapes::shape_arrives;
 pub use shapes::shape_quantities_in;
 pub use velocities::put_velocity_quantities;

@@ -9,25 +9,35 @@ use ground::SignedMillimetres;
 use ground::Whole;
 use quantities::ShapeQuantities;
 ghost use mathlib.Core.Path.{_≡_};
-ghost use mathlib.Core.List.{_++_};
-ghost use Prim.Native.Nat.{_≤_};
-ghost use lib.ListN.{length, drop};
+ghost use Prim.Native.Nat.{_+_, _*_, _-_, _≤_};
+ghost use lib.IntN.{pos};
+ghost use lib.ListN.{length, replicate};
 ghost use lib.Seq.{sets};
 ghost use Rattle.ground.specs.Answers.{Decides};
 ghost use Rattle.layout.specs.Shapes.{upto};
 ghost use Rattle.cells.specs.Quantities.{naturalOf, quantityIn};
-ghost use Rattle.quantity_cells.specs.Shapes.{quantityCells, singleCells, pointCells, quantitiesIn, coordinateIn, Arrives, NaturalsArrive};
+ghost use Rattle.quantity_cells.specs.Shapes.{singleCells, quantitiesIn, coordinateIn, Arrives, NaturalsArrive};
 
-// Puts the cells of quantities into the first of the array.
-pub fn put_shape_quantities(out: &mut [i64], quantities: ShapeQuantities)
+// Puts the cells that are no point's into the first of the array.
+pub fn put_singles(out: &mut [i64], quantities: ShapeQuantities)
     requires { ⌜ 44 ≤ length (now out) ⌝ }
-    ensures { λ _. ⌜ now (out .exit) ≡ quantityCells quantities ++ drop 44 (now (out .entry)) ⌝ }
+    ensures { λ _. ⌜ now (out .exit) ≡ sets (now (out .entry)) 0 (singleCells quantities) ⌝ }
 {
     let singles = single_cells(quantities);
-    let latitudes = quantities.latitudes;
-    let longitudes = quantities.longitudes;
     cells::put_quantities(out, &singles);
-    put_points(out, latitudes, longitudes);
+}
+
+// Puts zeros for the points after the first n.
+pub fn clear_from(out: &mut [i64], n: u8)
+    requires { ⌜ 44 ≤ length (now out) ⌝ }
+    requires { ⌜ n ≤ 15 ⌝ }
+    ensures { λ _. ⌜ now (out .exit) ≡ sets (now (out .entry)) (14 + 2 * n) (replicate (30 - 2 * n) (pos 0)) ⌝ }
+{
+    let mut i = 14 + 2 * (n as usize);
+    while i < 44 {
+        out[i] = 0;
+        i += 1;
+    }
 }
 
 // The cells before the points.
@@ -54,24 +64,6 @@ fn single_cells(quantities: ShapeQuantities) -> [i64; 14]
         cells::wide(quantities.included.0).0,
         numbers::confidence_cell(confidence).0,
     ]
-}
-
-// Puts the cells of the points.
-fn put_points(out: &mut [i64], latitudes: [Nanodegrees; 15], longitudes: [Nanodegrees; 15])
-    requires { ⌜ 44 ≤ length (now out) ⌝ }
-    ensures { λ _. ⌜ now (out .exit) ≡ sets (now (out .entry)) 14 (pointCells latitudes longitudes 15) ⌝ }
-{
-    let mut i = 0;
-    while i < 15 {
-        let at = 14 + 2 * i;
-        let latitude = latitudes[i];
-        let longitude = longitudes[i];
-        let north = latitude.0;
-        let east = longitude.0;
-        out[at] = north;
-        out[at + 1] = east;
-        i += 1;
-    }
 }
 
 // The quantities of the cells.

@@ -3,7 +3,8 @@ use ground::LatitudeCode;
 use ground::LongitudeCode;
 use ground::Nanodegrees;
 ghost use Prim.Native.Nat.{_≤_};
-ghost use Rattle.reports.specs.Points.{LatitudesHeld, LatitudesReported, LongitudesHeld, LongitudesReported};
+ghost use Rattle.spoken_shapes.specs.Points.{LatitudesReported, LongitudesReported};
+ghost use Rattle.reports.specs.Points.{LatitudesHeld, LongitudesHeld};
 
 // The latitudes of the first n, and zeros.
 pub fn latitudes(codes: [LatitudeCode; 15], n: u8) -> [Nanodegrees; 15]

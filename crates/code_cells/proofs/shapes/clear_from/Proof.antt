@@ -4,7 +4,7 @@ use Prim.Native.Nat.{ℕ, _+_, _*_, _-_, _≤_}
 use native.Mathlib.Omega.{arith}
 use lib.ListN.{length, length-set, replicate}
 use lib.Seq.{sets}
-use Rattle.code_cells.proofs.PointLaws.{none-cleared, one-cleared}
+use Rattle.cells.proofs.ClearLaws.{none-cleared, one-cleared}
 use borrow.Author.Needs.{needs}
 use Rattle.code_cells.proofs.shapes.clear_from.Statement.{statement}
 use Rattle.code_cells.proofs.shapes.clear_from.Tie as tie
@@ -22,7 +22,7 @@ add-i : tie.Need-add-i Inv-loop μ-loop
 add-i c = search needs
 
 loop-holds : tie.Need-loop-holds Inv-loop μ-loop
-loop-holds c = (omega arith, omega arith, none-cleared _ (16 + 3 * c .args .n), refl)
+loop-holds c = (omega arith, omega arith, none-cleared 0 _ (16 + 3 * c .args .n), refl)
 
 mul-out : tie.Need-mul-out Inv-loop μ-loop
 mul-out c = search needs
@@ -39,7 +39,7 @@ loop-less c = search needs
 loop-again : tie.Need-loop-again Inv-loop μ-loop
 loop-again c =
     let l = c .before .loop in
-    (omega arith, omega arith, one-cleared _ (l .out) _ (l .i) (l .inv .0) (l .inv .2), simp length-set (l .inv .3))
+    (omega arith, omega arith, one-cleared 0 _ (l .out) _ (l .i) (l .inv .0) (l .inv .2), simp length-set (l .inv .3))
 
 same-length : tie.Need-same-length Inv-loop μ-loop
 same-length c = search needs

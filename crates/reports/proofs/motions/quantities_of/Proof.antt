@@ -2,7 +2,7 @@
 use mathlib.Core.Path.{refl}
 use Rattle.quantities.specs.Places.{bearing}
 use Rattle.quantities.proofs.HeldLaws.{velocity-held}
-use Rattle.reports.proofs.TakenLaws.{motion-reported}
+use Rattle.reports.proofs.MotionLaws.{motion-reported}
 use Rattle.reports.proofs.motions.quantities_of.Statement.{statement}
 use Rattle.reports.proofs.motions.quantities_of.Tie as tie
 

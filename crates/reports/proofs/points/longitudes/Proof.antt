@@ -3,8 +3,8 @@ use Prim.Native.Nat.{_-_, _≤_}
 use mathlib.Core.Path.{_≡_}
 use borrow.Author.Needs.{needs}
 use native.Mathlib.Omega.{arith}
-use Rattle.reports.specs.Points.{LongitudesReported}
-use Rattle.reports.proofs.FillLaws.{none-filled, one-more}
+use Rattle.spoken_shapes.specs.Points.{LongitudesReported}
+use Rattle.spoken_shapes.proofs.FillLaws.{none-filled, one-more}
 use Rattle.reports.proofs.points.longitudes.Statement.{statement}
 use Rattle.reports.proofs.points.longitudes.Tie as tie
 

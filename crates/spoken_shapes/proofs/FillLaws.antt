@@ -10,7 +10,7 @@ use lib.Seq.{getD-set-same, getD-set-other}
 use borrow.Author.Tests.{eqb-true, eqb-false, ltb-true, ltb-false}
 use Rattle.ground.specs.declared.quantities.Nanodegrees.{Nanodegrees}
 use Rattle.quantities.specs.Shapes.{zeroDegrees}
-use Rattle.reports.specs.Points.{Filled}
+use Rattle.spoken_shapes.specs.Points.{Filled}
 
 module _ (told : ℕ → Nanodegrees → Type 0) where
   zeros : (i : ℕ) (b : Bool) → ltb i 15 ≡ b → getD (replicate 15 zeroDegrees) i zeroDegrees ≡ zeroDegrees

@@ -8,9 +8,9 @@ use Rattle.layout.specs.declared.shapes.Kind.{Kind}
 use Rattle.layout.specs.declared.shapes.Kind.the-variants.{Nothing, Point, Circle, Ellipse, Polygon, AltitudePoint, AltitudeEllipsoid, Arc}
 use Rattle.quantities.specs.Places.{zeroQuantity}
 use Rattle.fields.specs.Fields as field
-use Rattle.reports.specs.Included.{IncludedReported}
-use Rattle.reports.proofs.shapes.included_of.Statement.{statement}
-use Rattle.reports.proofs.shapes.included_of.Tie as tie
+use Rattle.spoken_shapes.specs.Outlines.{IncludedReported}
+use Rattle.spoken_shapes.proofs.included_of.Statement.{statement}
+use Rattle.spoken_shapes.proofs.included_of.Tie as tie
 
 no-arc : (k : Kind) (c : IncludedCode) → (k ≡ Arc → ⊥) → IncludedReported k c (zeroQuantity field.included)
 no-arc Nothing c h = record { used = λ u. absurd (omega arith); unused = λ e. refl }
