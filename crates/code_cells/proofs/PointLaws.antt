@@ -9,8 +9,7 @@ use lib.ListN.{length, length-append, getD, set, drop, replicate, replicate-appe
 use lib.Seq.{sets, sets-eq}
 use Rattle.ground.specs.declared.codes.LatitudeCode.{LatitudeCode}
 use Rattle.ground.specs.declared.codes.LongitudeCode.{LongitudeCode}
-use Rattle.layout.specs.Shapes.{upto, zeroLatitude, zeroLongitude}
-use Rattle.fetching.proofs.Filling.{fill}
+use Rattle.layout.specs.Shapes.{zeroLatitude, zeroLongitude}
 use Rattle.ground.proofs.ListLaws.{sets-append}
 use Rattle.cells.proofs.CopyLaws.{sets-after}
 use Rattle.layout.specs.declared.shapes.Shape.{Shape}
@@ -55,14 +54,6 @@ module _ (latitudes : List LatitudeCode) (longitudes : List LongitudeCode) where
         ap (λ (k : ℕ). sets (sets l 16 (pointCells latitudes longitudes n)) (16 + k) zeros) (sym (length-points n))
         ∙ sets-append l 16 (pointCells latitudes longitudes n) zeros
         ∙ ap (λ (t : List ℕ). sets l 16 t) (sym all-points)
-
--- a list of fifteen of which the first i are filled
-module _ {A : Type 0} (f : ℕ → A) (z : A) {l : List A} {i : ℕ} (e : l ≡ upto i f ++ replicate (15 - i) z) where
-  pub one-filled : (a : A) → i < 15 → a ≡ f i → set l i a ≡ upto (i + 1) f ++ replicate (15 - (i + 1)) z
-  one-filled a h p = rw (e, p) (fill f 15 i z h)
-
-  pub all-filled : i ≤ 15 → 15 ≤ i → l ≡ upto 15 f
-  all-filled a b = let h : i ≡ 15 = omega arith in subst (λ (k : ℕ). l ≡ upto k f ++ replicate (15 - k) z) h e
 
 -- the cells before the points, the first n points, and zeros after them, are a record's cells
 pub shape-put : (x : Shape) {n : ℕ} → Ended (x .latitudes) (x .longitudes) n → (o : List ℕ) → 61 ≤ length o

@@ -1,9 +1,8 @@
 -- A SHAPE'S CODES IN 61 CELLS. Assumes nothing.
 use mathlib.Core.Path.{_≡_}
 use mathlib.Core.List.{List, [], _∷_, _++_}
-use Prim.Native.Nat.{ℕ, zero, suc, _+_, _*_, _≤_, _<_}
+use Prim.Native.Nat.{ℕ, zero, suc, _+_, _*_, _≤_}
 use lib.ListN.{getD, take, replicate}
-use lib.Dec.{eqb}
 use Rattle.ground.specs.declared.codes.LatitudeCode.{LatitudeCode}
 use Rattle.ground.specs.declared.codes.LongitudeCode.{LongitudeCode}
 use Rattle.octets.specs.Codes.{bitOf, signOf, complement}
@@ -37,8 +36,8 @@ use Rattle.layout.specs.Layout.{
   shapeRows,
   typeOf,
 }
-use Rattle.layout.specs.Shapes.{kindOf, upto, latitudeOf, longitudeOf, shapeOf, zeroLatitude, zeroLongitude}
-use Rattle.cells.specs.Codes.{cellAt, capped, fromBits, bitsOf}
+use Rattle.layout.specs.Shapes.{kindOf, latitudeOf, longitudeOf, shapeOf, zeroLatitude, zeroLongitude}
+use Rattle.cells.specs.Codes.{cellAt, fromBits, bitsOf}
 
 -- ---- THE LAYOUT
 
@@ -151,50 +150,3 @@ outlineIn cells = record {
   latitudes = replicate 15 zeroLatitude;
   longitudes = replicate 15 zeroLongitude;
 }
-
--- ---- the record that is made of cells, whatever they hold
-
-abbrev pub heldLatitude : List ℕ → ℕ → LatitudeCode
-heldLatitude cells i = record { 0 = eqb (cellAt cells (16 + 3 * i)) 1; 1 = cellAt cells (17 + 3 * i) }
-
-abbrev pub heldLongitude : List ℕ → ℕ → LongitudeCode
-heldLongitude cells i = record { 0 = fromBits (cellAt cells (18 + 3 * i)) }
-
-abbrev pub heldShape : List ℕ → Shape
-heldShape cells = record {
-  kind = kindOf (capped 255 (cellAt cells 0));
-  latitude = record { 0 = eqb (cellAt cells 2) 1; 1 = cellAt cells 3 };
-  longitude = record { 0 = fromBits (cellAt cells 4) };
-  altitude = record { 0 = eqb (cellAt cells 5) 1; 1 = capped 65535 (cellAt cells 6) };
-  uncertainty = record { 0 = capped 255 (cellAt cells 7) };
-  «semi_major» = record { 0 = capped 255 (cellAt cells 8) };
-  «semi_minor» = record { 0 = capped 255 (cellAt cells 9) };
-  orientation = record { 0 = capped 255 (cellAt cells 10) };
-  «altitude_uncertainty» = record { 0 = capped 255 (cellAt cells 11) };
-  «inner_radius» = record { 0 = capped 65535 (cellAt cells 12) };
-  offset = record { 0 = capped 255 (cellAt cells 13) };
-  included = record { 0 = capped 255 (cellAt cells 14) };
-  confidence = record { 0 = capped 255 (cellAt cells 15) };
-  count = capped 255 (cellAt cells 1);
-  latitudes = upto 15 (heldLatitude cells);
-  longitudes = upto 15 (heldLongitude cells);
-}
-
--- ---- the numbers that their codes' types hold
-
--- the largest of each code from D to the confidence, cells 5 to 15
-abbrev pub largestNumbers : List ℕ
-largestNumbers = 1 ∷ 65535 ∷ 255 ∷ 255 ∷ 255 ∷ 255 ∷ 255 ∷ 65535 ∷ 255 ∷ 255 ∷ 255 ∷ []
-
-abbrev pub WholeFields : List ℕ → Type 0
-WholeFields cells = (i : ℕ) → i < 11 → cellAt cells (5 + i) ≤ getD largestNumbers i 0
-
-abbrev pub WholePoints : List ℕ → Type 0
-WholePoints cells = (i : ℕ) → i < 15 → cellAt cells (16 + 3 * i) ≤ 1
-
--- any number names a type or none, and a latitude's or a longitude's type holds what a cell does
-pub record Whole (cells : List ℕ) : Type 0 where
-  pub points-count : cellAt cells 1 ≤ 255
-  pub sign : cellAt cells 2 ≤ 1
-  pub others : WholeFields cells
-  pub points : WholePoints cells

@@ -13,14 +13,10 @@ use ground::UncertaintyCode;
 use layout::Kind;
 use layout::Shape;
 ghost use mathlib.Core.Path.{_≡_};
-ghost use mathlib.Core.List.{_++_};
 ghost use Prim.Native.Nat.{_+_, _*_, _-_, _≤_, _<_};
-ghost use lib.ListN.{length, drop, replicate};
-ghost use Rattle.ground.specs.Answers.{Decides};
-ghost use Rattle.code_cells.specs.Shapes.{shapeCells, singleCells, heldShape, heldLatitude, heldLongitude, Whole, WholeFields, WholePoints, largestNumbers};
-ghost use Rattle.layout.specs.Shapes.{upto};
+ghost use lib.ListN.{length, replicate};
 ghost use lib.Seq.{sets};
-ghost use Rattle.code_cells.specs.Shapes.{pointCell, pointCells, Ended, kindIn, rowsIn, valueIn, outlineIn};
+ghost use Rattle.code_cells.specs.Shapes.{singleCells, pointCell, pointCells, shapeCells, kindIn, rowsIn, valueIn, outlineIn};
 ghost use Rattle.layout.specs.Demands.{InFields};
 
 // The kind of the cells' type.
@@ -78,20 +74,6 @@ pub fn put_singles(out: &mut [u32], shape: Shape)
 {
     let singles = single_cells(shape);
     cells::put_codes(out, &singles);
-}
-
-// Puts the cells of a record into the first of the array.
-pub fn put_shape(out: &mut [u32], shape: Shape)
-    requires { ⌜ 61 ≤ length (now out) ⌝ }
-    requires { ⌜ Ended (shape .latitudes) (shape .longitudes) (shape .count) ⌝ }
-    ensures { λ _. ⌜ now (out .exit) ≡ shapeCells shape ++ drop 61 (now (out .entry)) ⌝ }
-{
-    let singles = single_cells(shape);
-    let latitudes = shape.latitudes;
-    let longitudes = shape.longitudes;
-    cells::put_codes(out, &singles);
-    put_points(out, latitudes, longitudes, shape.count);
-    clear_from(out, shape.count);
 }
 
 // The cells before the points.
@@ -176,114 +158,4 @@ pub fn clear_from(out: &mut [u32], n: u8)
         out[i] = 0;
         i += 1;
     }
-}
-
-// The record of the cells. A number that its code's type can't hold is taken as the largest that it holds.
-pub fn shape_in(codes: &[u32]) -> Shape
-    requires { ⌜ 61 ≤ length (now codes) ⌝ }
-    ensures { λ r. ⌜ r ≡ heldShape (now (codes .entry)) ⌝ }
-{
-    let kind = layout::kind_of(cells::capped_octet(codes[0]));
-    let latitudes = latitudes_in(codes);
-    let longitudes = longitudes_in(codes);
-    Shape {
-        kind,
-        latitude: LatitudeCode(codes[2] == 1, codes[3]),
-        longitude: cells::longitude_of(codes[4]),
-        altitude: AltitudeCode(codes[5] == 1, cells::capped_word(codes[6])),
-        uncertainty: UncertaintyCode(cells::capped_octet(codes[7])),
-        semi_major: UncertaintyCode(cells::capped_octet(codes[8])),
-        semi_minor: UncertaintyCode(cells::capped_octet(codes[9])),
-        orientation: OrientationCode(cells::capped_octet(codes[10])),
-        altitude_uncertainty: AltitudeUncertaintyCode(cells::capped_octet(codes[11])),
-        inner_radius: InnerRadiusCode(cells::capped_word(codes[12])),
-        offset: OffsetCode(cells::capped_octet(codes[13])),
-        included: IncludedCode(cells::capped_octet(codes[14])),
-        confidence: ConfidenceCode(cells::capped_octet(codes[15])),
-        count: cells::capped_octet(codes[1]),
-        latitudes,
-        longitudes,
-    }
-}
-
-fn latitudes_in(codes: &[u32]) -> [LatitudeCode; 15]
-    requires { ⌜ 61 ≤ length (now codes) ⌝ }
-    ensures { λ r. ⌜ r ≡ upto 15 (heldLatitude (now (codes .entry))) ⌝ }
-{
-    let mut latitudes = [LatitudeCode(false, 0); 15];
-    let mut i = 0;
-    while i < 15 {
-        let at = 16 + 3 * i;
-        latitudes[i] = LatitudeCode(codes[at] == 1, codes[at + 1]);
-        i += 1;
-    }
-    latitudes
-}
-
-fn longitudes_in(codes: &[u32]) -> [LongitudeCode; 15]
-    requires { ⌜ 61 ≤ length (now codes) ⌝ }
-    ensures { λ r. ⌜ r ≡ upto 15 (heldLongitude (now (codes .entry))) ⌝ }
-{
-    let mut longitudes = [LongitudeCode(0); 15];
-    let mut i = 0;
-    while i < 15 {
-        longitudes[i] = cells::longitude_of(codes[18 + 3 * i]);
-        i += 1;
-    }
-    longitudes
-}
-
-// Whether each number is one that its code's type holds.
-pub fn shape_is_whole(codes: &[u32]) -> bool
-    requires { ⌜ 61 ≤ length (now codes) ⌝ }
-    ensures { λ r. ⌜ Decides r (Whole (now (codes .entry))) ⌝ }
-{
-    if 255 < codes[1] {
-        return false;
-    }
-    if 1 < codes[2] {
-        return false;
-    }
-    if !fields_are_whole(codes) {
-        return false;
-    }
-    points_are_whole(codes)
-}
-
-// From D to the confidence.
-fn fields_are_whole(codes: &[u32]) -> bool
-    requires { ⌜ 61 ≤ length (now codes) ⌝ }
-    ensures { λ r. ⌜ Decides r (WholeFields (now (codes .entry))) ⌝ }
-{
-    let largest = largest_numbers();
-    let mut i = 0;
-    while i < 11 {
-        if largest[i] < codes[5 + i] {
-            return false;
-        }
-        i += 1;
-    }
-    true
-}
-
-// The largest number that the type of each of these codes holds.
-fn largest_numbers() -> [u32; 11]
-    ensures { λ r. ⌜ r ≡ largestNumbers ⌝ }
-{
-    [1, 65535, 255, 255, 255, 255, 255, 65535, 255, 255, 255]
-}
-
-// A point's sign is 0 or 1; its other codes' types hold every number.
-fn points_are_whole(codes: &[u32]) -> bool
-    requires { ⌜ 61 ≤ length (now codes) ⌝ }
-    ensures { λ r. ⌜ Decides r (WholePoints (now (codes .entry))) ⌝ }
-{
-    let mut i = 0;
-    while i < 15 {
-        if 1 < codes[16 + 3 * i] {
-            return false;
-        }
-        i += 1;
-    }
-    true
 }
