@@ -4,36 +4,32 @@ use mathlib.Core.List.{List}
 use Prim.Native.Nat.{ℕ}
 use lib.IntN.{ℤ, negsuc}
 use Rattle.ground.specs.Answers.{outcomeNumber, Unless, Else0}
-use Rattle.ground.specs.declared.refusals.Outcome.{Outcome}
-use Rattle.ground.specs.declared.refusals.Outcome.the-variants.{Done, Refused}
 use Rattle.ground.specs.declared.told.Told.{Told}
 use Rattle.layout.specs.declared.Written.{Written}
-use Rattle.layout.specs.declared.shapes.Kind.the-variants as shape
-use Rattle.layout.specs.declared.shapes.Shape.{Shape}
 use Rattle.layout.specs.declared.shapes.ShapeRead.{ShapeRead}
 use Rattle.layout.specs.declared.velocities.VelocityKind.{VelocityKind}
 use Rattle.layout.specs.declared.velocities.VelocityKind.the-variants as velocity
 use Rattle.layout.specs.declared.velocities.VelocityRead.{VelocityRead}
 use Rattle.layout.specs.Layout.{Field, Row, velocityRows}
 use Rattle.layout.specs.Rows.{lengthOf}
-use Rattle.layout.specs.Demands.{Listed, CountSound, WriteAnswer, Writes}
-use Rattle.layout.specs.Shapes.{ReadsShape, blankShape}
+use Rattle.layout.specs.Demands.{Listed, WriteAnswer, Writes}
+use Rattle.layout.specs.Shapes.{ReadsShape}
 use Rattle.layout.specs.Velocities.{ReadsVelocity, blankVelocity}
 use Rattle.quantities.specs.declared.shapes.ShapeReported.{ShapeReported}
 use Rattle.quantities.specs.declared.shapes.ShapeCoded.{ShapeCoded}
 use Rattle.quantities.specs.declared.velocities.VelocityReported.{VelocityReported}
 use Rattle.quantities.specs.declared.velocities.VelocityCoded.{VelocityCoded}
-use Rattle.quantities.specs.Places.{Quantities}
-use Rattle.quantities.specs.Promises.{CodeAnswer, Given}
-use Rattle.quantities.specs.Shapes.{quantityAt, quantityRows, QuantitiesOf, RecordOf, noShape}
+use Rattle.quantities.specs.Promises.{Given}
 use Rattle.quantities.specs.Velocities.{velocityQuantityAt, VelocityQuantitiesOf, VelocityRecordOf, noVelocity}
 use Rattle.requests.specs.declared.Request.{Request}
 use Rattle.requests.specs.Choice.{Chooses}
 use Rattle.requests.specs.Choice as receiver
 use Rattle.cells.specs.Answers.{answerOf, PutsCells, OfArray}
-use Rattle.code_cells.specs.Shapes.{shapeCells, Ended, rowsIn, valueIn, recordIn}
+use Rattle.code_cells.specs.Shapes.{shapeCells, rowsIn, valueIn}
+use Rattle.cell_reports.specs.Reports.{ReportsShapeIn}
+use Rattle.cell_records.specs.Records.{CodeCellsAnswer, CodesShapeIn}
 use Rattle.code_cells.specs.Velocities.{velocityCells, velocityRowsIn, velocityValueIn, velocityRecordIn}
-use Rattle.quantity_cells.specs.Shapes.{quantityCells, quantitiesIn, Arrives}
+use Rattle.quantity_cells.specs.Shapes.{quantityCells}
 use Rattle.quantity_cells.specs.Velocities.{velocityQuantityCells, velocityQuantitiesIn, VelocityArrives}
 use Rattle.request_cells.specs.Requests.{Says}
 use Rattle.field_cells.specs.Fields.{CodesField, ReportsField, toldOutcome}
@@ -66,10 +62,6 @@ WritesVelocityFrom cells before after n = OfArray 7 cells before after n (Writes
 
 -- ---- REPORTING the record that cells say: one that the writer would refuse, room given, is refused with the same number
 
-pub record ReportsShapeIn (cells : List ℕ) (r : ShapeReported) : Type 0 where
-  pub answer : WriteAnswer (rowsIn cells) (valueIn cells) (lengthOf (rowsIn cells)) (outcomeNumber (r .outcome))
-  pub quantities : Given (r .outcome) (QuantitiesOf (recordIn cells) (r .quantities)) (r .quantities ≡ noShape)
-
 pub record ReportsShapeInto (cells : List ℕ) (before after : List ℤ) (n : ℤ) : Type 0 where
   pub reported : ShapeReported
   pub promise : ReportsShapeIn cells reported
@@ -91,14 +83,6 @@ abbrev pub ReportsVelocityFrom : List ℕ → List ℤ → List ℤ → ℤ → 
 ReportsVelocityFrom cells before after n = OfArray 7 cells before after n (ReportsVelocityInto cells before after n)
 
 -- ---- CODING the quantities that cells say: 2, 4, then 7 also for a quantity that does not arrive in its width, 8
-
-abbrev pub CodeCellsAnswer : Type 0 → List Row → ℕ → Quantities → ℕ → Type 0
-CodeCellsAnswer arrives rows count quantity =
-    Unless (Listed rows) 2 (Unless (CountSound rows (λ f. count)) 4 (Unless arrives 7 (CodeAnswer rows count quantity)))
-
-pub record CodesShapeIn (cells : List ℤ) (r : ShapeCoded) : Type 0 where
-  pub answer : CodeCellsAnswer (Arrives cells) (quantityRows (quantitiesIn cells)) (quantitiesIn cells .count) (quantityAt (quantitiesIn cells)) (outcomeNumber (r .outcome))
-  pub shape : Given (r .outcome) (RecordOf (quantitiesIn cells) (r .shape)) (r .shape ≡ blankShape shape.Nothing)
 
 pub record CodesShapeInto (cells : List ℤ) (before after : List ℕ) (n : ℤ) : Type 0 where
   pub coded : ShapeCoded
@@ -147,8 +131,3 @@ pub record ReportsOne (field : ℕ) (code : List ℕ) (before after : List ℤ) 
 -- 2, of a velocity's kind
 abbrev pub KindAnswer : VelocityKind → ℕ → Type 0
 KindAnswer k = Unless (Listed (velocityRows k)) 2 Else0
-
--- a record that is put has no points after its last
-abbrev pub Puttable : Outcome → Shape → Type 0
-Puttable Done x = Ended (x .latitudes) (x .longitudes) (x .count)
-Puttable (Refused why) x = Unit {0}

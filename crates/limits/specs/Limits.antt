@@ -44,6 +44,11 @@ numbersIn cells = map (valueIn cells) singleFields
 abbrev pub largestOf : Kind → List ℕ
 largestOf k = map (λ f. 2 ^ widthOf (shapeRows k 0) f - 1) singleFields
 
+-- type, count, S, latitude and longitude of a kind that has a position, and eleven others
+abbrev pub positionedLargest : List ℕ → List ℕ
+positionedLargest l =
+    15 ∷ 0 ∷ 1 ∷ 8388607 ∷ 16777215 ∷ getD l 0 0 ∷ getD l 1 0 ∷ getD l 2 0 ∷ getD l 3 0 ∷ getD l 4 0 ∷ getD l 5 0 ∷ getD l 6 0 ∷ getD l 7 0 ∷ getD l 8 0 ∷ getD l 9 0 ∷ getD l 10 0 ∷ []
+
 -- each number against the largest
 abbrev pub Within : List ℕ → List ℕ → Type 0
 Within numbers largest = (i : ℕ) → i < 16 → getD numbers i 0 ≤ getD largest i 0

@@ -8,7 +8,7 @@ ghost use Prim.Native.Nat.{_≤_};
 ghost use lib.ListN.{length};
 ghost use Rattle.ground.specs.Answers.{Decides};
 ghost use Rattle.code_cells.specs.Shapes.{kindIn};
-ghost use Rattle.limits.specs.Limits.{CellsInFields, numbersIn, largestOf, Within};
+ghost use Rattle.limits.specs.Limits.{CellsInFields, numbersIn, largestOf, positionedLargest, Within};
 
 pub fn in_fields(codes: &[u32], kind: Kind) -> bool
     requires { ⌜ 61 ≤ length (now codes) ⌝ }
@@ -54,99 +54,38 @@ fn largest_of(kind: Kind) -> [u32; 16]
 {
     match kind {
         Kind::Nothing => [0; 16],
-        Kind::Point => [15, 0, 1, 8388607, 16777215, 0, 0, 0, 0, 0, 0, 0, 0, 0, 0, 0],
-        Kind::Circle => [
-            15,
-            0,
-            1,
-            8388607,
-            16777215,
-            0,
-            0,
-            127,
-            0,
-            0,
-            0,
-            0,
-            0,
-            0,
-            0,
-            0,
-        ],
-        Kind::Ellipse => [
-            15,
-            0,
-            1,
-            8388607,
-            16777215,
-            0,
-            0,
-            0,
-            127,
-            127,
-            255,
-            0,
-            0,
-            0,
-            0,
-            127,
-        ],
+        Kind::Point => positioned([0; 11]),
+        Kind::Circle => positioned([0, 0, 127, 0, 0, 0, 0, 0, 0, 0, 0]),
+        Kind::Ellipse => positioned([0, 0, 0, 127, 127, 255, 0, 0, 0, 0, 127]),
         Kind::Polygon => [15, 15, 0, 0, 0, 0, 0, 0, 0, 0, 0, 0, 0, 0, 0, 0],
-        Kind::AltitudePoint => [
-            15,
-            0,
-            1,
-            8388607,
-            16777215,
-            1,
-            32767,
-            0,
-            0,
-            0,
-            0,
-            0,
-            0,
-            0,
-            0,
-            0,
-        ],
-        Kind::AltitudeEllipsoid => [
-            15,
-            0,
-            1,
-            8388607,
-            16777215,
-            1,
-            32767,
-            0,
-            127,
-            127,
-            255,
-            127,
-            0,
-            0,
-            0,
-            127,
-        ],
-        Kind::Arc => [
-            15,
-            0,
-            1,
-            8388607,
-            16777215,
-            0,
-            0,
-            127,
-            0,
-            0,
-            0,
-            0,
-            65535,
-            255,
-            255,
-            127,
-        ],
+        Kind::AltitudePoint => positioned([1, 32767, 0, 0, 0, 0, 0, 0, 0, 0, 0]),
+        Kind::AltitudeEllipsoid => positioned([1, 32767, 0, 127, 127, 255, 127, 0, 0, 0, 127]),
+        Kind::Arc => positioned([0, 0, 127, 0, 0, 0, 0, 65535, 255, 255, 127]),
     }
+}
+
+// Those of a kind that has a position and no count: of its fields from D on these.
+fn positioned(others: [u32; 11]) -> [u32; 16]
+    ensures { λ r. ⌜ r ≡ positionedLargest others ⌝ }
+{
+    [
+        15,
+        0,
+        1,
+        8388607,
+        16777215,
+        others[0],
+        others[1],
+        others[2],
+        others[3],
+        others[4],
+        others[5],
+        others[6],
+        others[7],
+        others[8],
+        others[9],
+        others[10],
+    ]
 }
 
 // Every number is compared whatever the others are, so that the compiler takes them together.
