@@ -12,38 +12,30 @@ use Rattle.ground.specs.declared.refusals.Outcome.the-variants.{Done, Refused}
 use Rattle.ground.proofs.AnswerLaws.{not-0}
 use Rattle.layout.specs.declared.Written.{Written}
 use Rattle.layout.specs.declared.shapes.Kind.{Kind}
-use Rattle.layout.specs.declared.shapes.Shape.{Shape}
-use Rattle.layout.specs.declared.shapes.Kind.the-variants as shape
 use Rattle.layout.specs.declared.velocities.Velocity.{Velocity}
 use Rattle.layout.specs.declared.velocities.VelocityKind.{VelocityKind}
 use Rattle.layout.specs.declared.velocities.VelocityKind.the-variants as velocity
 use Rattle.layout.specs.Layout.{Field, Row, velocityRows}
-use Rattle.layout.specs.Shapes.{blankShape}
 use Rattle.layout.specs.Velocities.{blankVelocity}
 use Rattle.layout.specs.Rows.{lengthOf}
 use Rattle.layout.specs.Demands.{Listed, CountSound, WriteAnswer, Writes}
-use Rattle.quantities.specs.declared.shapes.ShapeReported.{ShapeReported}
-use Rattle.quantities.specs.declared.shapes.ShapeCoded.{ShapeCoded}
 use Rattle.quantities.specs.declared.velocities.VelocityReported.{VelocityReported}
 use Rattle.quantities.specs.declared.velocities.VelocityCoded.{VelocityCoded}
 use Rattle.quantities.specs.Places.{Quantities}
 use Rattle.quantities.specs.Promises.{CodeAnswer, Given}
-use Rattle.quantities.specs.Shapes.{quantityAt, quantityRows, QuantitiesOf, RecordOf, noShape, ReportsShape, CodesShape}
 use Rattle.quantities.specs.Velocities.{velocityQuantityAt, VelocityQuantitiesOf, VelocityRecordOf, noVelocity, ReportsVelocity, CodesVelocity}
 use Rattle.requests.specs.declared.Request.{Request}
 use Rattle.requests.specs.Choice.{Chosen, refuses, too-short, writes, Chooses}
 use Rattle.cells.specs.Answers.{answerOf, elseOutOfRange}
-use Rattle.code_cells.specs.Shapes.{rowsIn, valueIn, recordIn, heldShape, Whole}
 use Rattle.code_cells.specs.Velocities.{velocityRowsIn, velocityValueIn, velocityRecordIn, heldVelocity, WholeVelocity}
-use Rattle.quantity_cells.specs.Shapes.{quantitiesIn, Arrives}
 use Rattle.quantity_cells.specs.Velocities.{velocityQuantitiesIn, VelocityArrives}
-use Rattle.records.specs.Kinds.{FormAnswer}
 use Rattle.velocities.proofs.DemandLaws.{no-count}
-use Rattle.alike.proofs.ShapeLaws.{held-answer, held-record}
 use Rattle.alike.proofs.VelocityLaws.{held-velocity-answer, held-velocity-record}
 use Rattle.cells.proofs.PutLaws.{puts-by}
 use Rattle.cell_reading.specs.Reading.{ReadsInto}
-use Rattle.desk.specs.Promises.{ReadsShapeInto, WritesTold, ReportsShapeIn, ReportsVelocityIn, CodeCellsAnswer, CodesShapeIn, CodesVelocityIn, KindAnswer}
+use Rattle.cell_reports.specs.Reports.{ReportsInto}
+use Rattle.cell_records.specs.Records.{CodeCellsAnswer, CodesInto}
+use Rattle.desk.specs.Promises.{ReadsShapeInto, WritesTold, ReportsShapeInto, ReportsVelocityIn, CodesShapeInto, CodesVelocityIn, KindAnswer}
 
 -- ---- no longer than the room
 
@@ -76,6 +68,12 @@ chosen-within w p = chosen-short p
 
 pub read-told : {s before after : List ℕ} {left : Outcome} {n : ℤ} → ReadsInto s before after left → n ≡ answerOf left 61 → ReadsShapeInto s before after n
 read-told r e = record { read = r .read; promise = r .promise; put = puts-by {outcome = r .read .outcome} (r .roomed) e (r .array) }
+
+pub report-told : {cells : List ℕ} {before after : List ℤ} {left : Outcome} {n : ℤ} → ReportsInto cells before after left → n ≡ answerOf left 44 → ReportsShapeInto cells before after n
+report-told r e = record { reported = r .reported; promise = r .promise; put = puts-by {outcome = r .reported .outcome} (r .roomed) e (r .array) }
+
+pub code-told : {cells : List ℤ} {before after : List ℕ} {left : Outcome} {n : ℤ} → CodesInto cells before after left → n ≡ answerOf left 61 → CodesShapeInto cells before after n
+code-told r e = record { coded = r .coded; promise = r .promise; put = puts-by {outcome = r .coded .outcome} (r .roomed) e (r .array) }
 
 -- ---- 7, after what comes before it
 
@@ -117,14 +115,6 @@ module _ (arrives : Type 0) (rows : List Row) (count : ℕ) (quantity : Quantiti
 
 -- ---- reporting the record that cells say
 
-pub held-reports : (cells : List ℕ) (r : ShapeReported) → Whole cells → ReportsShape (heldShape cells) r → ReportsShapeIn cells r
-held-reports cells r whole p = record { answer = held-answer cells whole _ (p .answer); quantities = by (r .outcome) (held-answer cells whole _ (p .answer)) (p .quantities) }
-  where
-    by : (o : Outcome) → WriteAnswer (rowsIn cells) (valueIn cells) (lengthOf (rowsIn cells)) (outcomeNumber o)
-        → Given o (QuantitiesOf (heldShape cells) (r .quantities)) (r .quantities ≡ noShape) → Given o (QuantitiesOf (recordIn cells) (r .quantities)) (r .quantities ≡ noShape)
-    by Done a q = subst (λ (x : Shape). QuantitiesOf x (r .quantities)) (held-record cells whole _ a) q
-    by (Refused why) a q = q
-
 pub held-velocity-reports : (cells : List ℕ) (r : VelocityReported) → WholeVelocity cells → ReportsVelocity (heldVelocity cells) r → ReportsVelocityIn cells r
 held-velocity-reports cells r whole p = record { answer = held-velocity-answer cells whole _ (p .answer); quantities = by (r .outcome) (held-velocity-answer cells whole _ (p .answer)) (p .quantities) }
   where
@@ -135,25 +125,11 @@ held-velocity-reports cells r whole p = record { answer = held-velocity-answer c
 
 -- ---- refusing what is outside its field or its width
 
-pub misfit-reports : (cells : List ℕ) (r : ShapeReported) (o : Outcome) → r .outcome ≡ elseOutOfRange o → r .quantities ≡ noShape
-    → WriteAnswer (rowsIn cells) (valueIn cells) (lengthOf (rowsIn cells)) (outcomeNumber (elseOutOfRange o)) → ReportsShapeIn cells r
-misfit-reports cells r o e q a = record {
-  answer = rw e a;
-  quantities = given-none o (r .outcome) (QuantitiesOf (recordIn cells) (r .quantities)) (r .quantities ≡ noShape) e q;
-}
-
 pub misfit-velocity-reports : (cells : List ℕ) (r : VelocityReported) (o : Outcome) → r .outcome ≡ elseOutOfRange o → r .quantities ≡ noVelocity
     → WriteAnswer (velocityRowsIn cells) (velocityValueIn cells) (lengthOf (velocityRowsIn cells)) (outcomeNumber (elseOutOfRange o)) → ReportsVelocityIn cells r
 misfit-velocity-reports cells r o e q a = record {
   answer = rw e a;
   quantities = given-none o (r .outcome) (VelocityQuantitiesOf (velocityRecordIn cells) (r .quantities)) (r .quantities ≡ noVelocity) e q;
-}
-
-pub misfit-codes : (cells : List ℤ) (r : ShapeCoded) (o : Outcome) → r .outcome ≡ elseOutOfRange o → r .shape ≡ blankShape shape.Nothing
-    → FormAnswer (quantitiesIn cells .kind) (quantitiesIn cells .count) (outcomeNumber o) → (Arrives cells → ⊥) → CodesShapeIn cells r
-misfit-codes cells r o e q a n = record {
-  answer = rw e (form-else (Arrives cells) (quantityRows (quantitiesIn cells)) (quantitiesIn cells .count) (quantityAt (quantitiesIn cells)) o a n);
-  shape = given-none o (r .outcome) (RecordOf (quantitiesIn cells) (r .shape)) (r .shape ≡ blankShape shape.Nothing) e q;
 }
 
 kind-form : (k : VelocityKind) (m : ℕ) → KindAnswer k m → Unless (Listed (velocityRows k)) 2 (Unless (CountSound (velocityRows k) (λ f. 0)) 4 Else0) m
@@ -168,9 +144,6 @@ misfit-velocity-codes cells r o e q a n = record {
 }
 
 -- ---- coding what arrives
-
-pub arrived-codes : (cells : List ℤ) (r : ShapeCoded) → Arrives cells → CodesShape (quantitiesIn cells) r → CodesShapeIn cells r
-arrived-codes cells r a p = record { answer = arrived (Arrives cells) (quantityRows (quantitiesIn cells)) (quantitiesIn cells .count) (quantityAt (quantitiesIn cells)) _ a (p .answer); shape = p .shape }
 
 pub arrived-velocity-codes : (cells : List ℤ) (r : VelocityCoded) → VelocityArrives cells → CodesVelocity (velocityQuantitiesIn cells) r → CodesVelocityIn cells r
 arrived-velocity-codes cells r a p = record { answer = arrived (VelocityArrives cells) (velocityRows (velocityQuantitiesIn cells .kind)) 0 (velocityQuantityAt (velocityQuantitiesIn cells)) _ a (p .answer); velocity = p .velocity }

@@ -1,2 +1,1 @@
 pub mod DeskLaws
-pub mod EndLaws

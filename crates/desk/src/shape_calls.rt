@@ -12,8 +12,8 @@ const QUANTITIES: usize = 44;
 pub extern "C" fn gad_read_shape(codes: &mut [u32], message: &[u8]) -> i64
     ensures { λ r. ⌜ ReadsShapeInto (now (message .entry)) (now (codes .entry)) (now (codes .exit)) r ⌝ }
 {
-    let outcome = cell_reading::read(codes, message);
-    cells::answer(outcome, CODES).0
+    let read = cell_reading::read(codes, message);
+    cells::answer(read, CODES).0
 }
 
 // Codes to octets.
@@ -37,8 +37,8 @@ pub extern "C" fn gad_report_shape(quantities: &mut [i64], codes: &[u32]) -> i64
     if codes.len() < CODES {
         return cells::answer(Outcome::Refused(Refusal::WrongLength), 0).0;
     }
-    let outcome = cell_reports::report(quantities, codes);
-    cells::answer(outcome, QUANTITIES).0
+    let reported = cell_reports::report(quantities, codes);
+    cells::answer(reported, QUANTITIES).0
 }
 
 // Quantities to codes.
@@ -49,6 +49,6 @@ pub extern "C" fn gad_code_shape(codes: &mut [u32], quantities: &[i64]) -> i64
     if quantities.len() < QUANTITIES {
         return cells::answer(Outcome::Refused(Refusal::WrongLength), 0).0;
     }
-    let outcome = cell_records::code(codes, quantities);
-    cells::answer(outcome, CODES).0
+    let coded = cell_records::code(codes, quantities);
+    cells::answer(coded, CODES).0
 }

@@ -1,10 +1,12 @@
--- What the inner function hands back is put. Assumes nothing.
+-- The codes of the cells are put, and how many there are is told.
 use mir.Syntax.{w64}
 use mir.Facts.{toZ-ofZ}
 use mathlib.Core.Path.{refl}
+use Prim.Native.Nat.{_≤_}
 use native.Mathlib.Omega.{arith}
+use lib.ListN.{length}
 use Rattle.cells.specs.Answers.{too-short, long-enough}
-use Rattle.desk.proofs.EndLaws.{coded-puttable}
+use Rattle.desk.proofs.DeskLaws.{code-told}
 use borrow.Author.Needs.{needs}
 use Rattle.desk.proofs.shape_calls.gad_code_shape.Statement.{statement}
 use Rattle.desk.proofs.shape_calls.gad_code_shape.Tie as tie
@@ -13,24 +15,23 @@ answer-requires : tie.Need-answer-requires
 answer-requires c κs = search needs
 
 returns : tie.Need-returns
-returns c = rw (toZ-ofZ {w = w64} {z = c .before .answer .result .0} (search needs)) (too-short (omega arith) (c .before .answer .ensures) refl)
+returns c = rw (toZ-ofZ {w = w64} {z = c@answer .result .0} (search needs)) (too-short (omega arith) (c@answer .ensures) refl)
 
-coded-in-requires : tie.Need-coded-in-requires
-coded-in-requires c κs = search needs
+code-requires : tie.Need-code-requires
+code-requires c κs = search needs
 
-put-codes-requires : tie.Need-put-codes-requires
-put-codes-requires c κs = coded-puttable _ _ (c .before .coded-in .ensures)
+answer-requires-2 : tie.Need-answer-requires-2
+answer-requires-2 c κs = search needs
 
 same-length : tie.Need-same-length
 same-length c = search needs
 
 returns-2 : tie.Need-returns-2
 returns-2 c =
-    let coded-in = c .before .before .before .before .before .coded-in in
-    let put-codes = c .before .before .before .put-codes in
-    rw (toZ-ofZ {w = w64} {z = put-codes .result .0} (search needs)) (long-enough (omega arith) (record { coded = coded-in .result; promise = coded-in .ensures; put = put-codes .ensures }))
+    let long : 44 ≤ length (c@start .args .quantities .now) = omega arith in
+    rw (toZ-ofZ {w = w64} {z = c@answer2 .result .0} (search needs)) (long-enough long (code-told (c@code .ensures) (c@answer2 .ensures)))
 
 pub gad-code-shape-spec : {M : Type 1} → statement M
 gad-code-shape-spec =
     tie.close
-    (tie.spec answer-requires returns coded-in-requires put-codes-requires same-length returns-2)
+    (tie.spec answer-requires returns code-requires answer-requires-2 same-length returns-2)
