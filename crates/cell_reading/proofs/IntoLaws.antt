@@ -3,7 +3,7 @@ use Prim.Native.Nat.{ℕ, _+_, _*_, _-_, _≤_, _<_}
 use mathlib.Core.Path.{_≡_, refl, sym, _∙_, subst}
 use mathlib.Core.List.{List, _++_}
 use native.Mathlib.Omega.{arith}
-use lib.ListN.{length, getD, replicate, List·getD-append}
+use lib.ListN.{length, getD, drop, replicate, List·getD-append}
 use lib.Seq.{sets}
 use Rattle.ground.specs.declared.refusals.Refusal.{Refusal}
 use Rattle.ground.specs.declared.refusals.Refusal.the-variants.{BufferTooShort}
@@ -26,7 +26,11 @@ use Rattle.forming.proofs.ReadLaws.{Starts, of-length, done-read}
 use Rattle.cells.proofs.PutLaws.{no-room, has-room}
 use Rattle.code_cells.specs.Shapes.{singleCells, pointCells, Ended}
 use Rattle.code_cells.proofs.PointLaws.{shape-put}
-use Rattle.cell_reading.specs.Reading.{ReadsInto}
+use Rattle.layout.specs.declared.velocities.VelocityKind.the-variants as motion
+use Rattle.layout.specs.declared.velocities.Velocity.{Velocity}
+use Rattle.layout.specs.Velocities.{blankVelocity, ReadsVelocity}
+use Rattle.code_cells.specs.Velocities.{velocityCells}
+use Rattle.cell_reading.specs.Reading.{ReadsInto, ReadsMotionInto}
 use Rattle.cell_reading.proofs.EndLaws.{ended}
 
 module _ {s before : List ℕ} where
@@ -78,3 +82,16 @@ module _ {s : List ℕ} {n : ℕ} (first : Starts s Polygon n) (a : FormAnswer P
       done-read s Polygon n first Done a (polygonOf n s) refl
       (subst (λ (m : ℕ). m ≤ 15 → polygonOf m s ≡ recordOf Polygon s) (sym (first .count)) (polygon-record s) few-points)
       Done (met (omega arith, omega arith, omega arith) (met (omega arith) refl)) refl
+
+-- ---- a velocity
+
+module _ {s before : List ℕ} where
+  pub motion-refused : (why : Refusal) → ReadsVelocity s (record { outcome = Refused why; velocity = blankVelocity motion.Nothing }) → ReadsMotionInto s before before (Refused why)
+  motion-refused why p = record { read = record { outcome = Refused why; velocity = blankVelocity motion.Nothing }; promise = p; roomed = refl; array = refl }
+
+  module _ (x : Velocity) (p : ReadsVelocity s (record { outcome = Done; velocity = x })) where
+    pub motion-short : length before < 7 → ReadsMotionInto s before before (Refused BufferTooShort)
+    motion-short h = record { read = record { outcome = Done; velocity = x }; promise = p; roomed = no-room 7 (length before) h; array = refl }
+
+    pub motion-put : {after : List ℕ} → 7 ≤ length before → after ≡ velocityCells x ++ drop 7 before → ReadsMotionInto s before after Done
+    motion-put h e = record { read = record { outcome = Done; velocity = x }; promise = p; roomed = has-room 7 (length before) h; array = e }

@@ -1,9 +1,12 @@
-// Octets to the cells of a shape's codes: document 01, "Octet layouts" and "Refusal numbers". No record is made of the points.
+// Octets to the cells of a shape's or a velocity's codes: document 01, "Octet layouts" and "Refusal numbers". No record is made of the
+// points.
 mod points;
+mod velocity;
 
 use ground::Outcome;
 use ground::Refusal;
 use layout::Kind;
+pub use velocity::read_velocity;
 ghost use Prim.Native.Nat.{_≤_};
 ghost use lib.ListN.{length};
 ghost use mathlib.Core.Path.{_≡_};
@@ -13,7 +16,7 @@ ghost use Rattle.forming.proofs.ReadLaws.{Starts};
 ghost use Rattle.cell_reading.specs.Reading.{ReadsInto};
 
 // Puts the codes in a message into the first cells of the array, or refuses it and leaves the array as it is. Each octet is looked at once.
-pub fn read(codes: &mut [u32], s: &[u8]) -> Outcome
+pub fn read_shape(codes: &mut [u32], s: &[u8]) -> Outcome
     ensures { λ r. ⌜ ReadsInto (now (s .entry)) (now (codes .entry)) (now (codes .exit)) r ⌝ }
 {
     if s.len() == 0 {

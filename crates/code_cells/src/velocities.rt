@@ -18,16 +18,13 @@ pub fn put_velocity(out: &mut [u32], velocity: Velocity)
 {
     let kind = velocity.kind;
     let type_number = layout::velocity_type_number(kind);
-    let all = [
-        type_number as u32,
-        velocity.bearing.0 as u32,
-        velocity.horizontal_speed.0 as u32,
-        cells::bit(velocity.vertical_speed.0),
-        velocity.vertical_speed.1 as u32,
-        velocity.uncertainty.0 as u32,
-        velocity.vertical_uncertainty.0 as u32,
-    ];
-    cells::put_codes(out, &all);
+    out[0] = type_number as u32;
+    out[1] = velocity.bearing.0 as u32;
+    out[2] = velocity.horizontal_speed.0 as u32;
+    out[3] = cells::bit(velocity.vertical_speed.0);
+    out[4] = velocity.vertical_speed.1 as u32;
+    out[5] = velocity.uncertainty.0 as u32;
+    out[6] = velocity.vertical_uncertainty.0 as u32;
 }
 
 // The record of the cells. A number that its code's type can't hold is taken as the largest that it holds.

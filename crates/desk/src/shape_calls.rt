@@ -12,7 +12,7 @@ const QUANTITIES: usize = 44;
 pub extern "C" fn gad_read_shape(codes: &mut [u32], message: &[u8]) -> i64
     ensures { λ r. ⌜ ReadsShapeInto (now (message .entry)) (now (codes .entry)) (now (codes .exit)) r ⌝ }
 {
-    let read = cell_reading::read(codes, message);
+    let read = cell_reading::read_shape(codes, message);
     cells::answer(read, CODES).0
 }
 

@@ -24,9 +24,8 @@ const QUANTITIES: usize = 6;
 pub extern "C" fn gad_read_velocity(codes: &mut [u32], message: &[u8]) -> i64
     ensures { λ r. ⌜ ReadsVelocityInto (now (message .entry)) (now (codes .entry)) (now (codes .exit)) r ⌝ }
 {
-    let read = velocities::read_velocity(message);
-    let outcome = read.outcome;
-    put_codes(codes, outcome, read.velocity).0
+    let read = cell_reading::read_velocity(codes, message);
+    cells::answer(read, CODES).0
 }
 
 // Codes to octets.

@@ -2,6 +2,7 @@
 mod answers;
 mod kinds;
 
+pub use answers::of_message;
 use ground::Outcome;
 use ground::Refusal;
 use layout::Velocity;

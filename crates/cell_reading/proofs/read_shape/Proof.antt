@@ -9,8 +9,8 @@ use Rattle.ground.specs.Answers.{unmet}
 use Rattle.forming.proofs.ReadLaws.{refused-read, Starts, starts, form-refused}
 use Rattle.cell_reading.proofs.IntoLaws.{refused-into}
 use borrow.Author.Needs.{needs}
-use Rattle.cell_reading.proofs.read.Statement.{statement}
-use Rattle.cell_reading.proofs.read.Tie as tie
+use Rattle.cell_reading.proofs.read_shape.Statement.{statement}
+use Rattle.cell_reading.proofs.read_shape.Tie as tie
 
 -- what the first octet says
 first : (c : tie.After-kind-of) → Starts (now (c .before .before .before .before .before .args .s)) (c .kind-of .result) (c .before .octet .result % 16)
@@ -58,8 +58,8 @@ same-length-2 c = search needs
 returns-4 : tie.Need-returns-4
 returns-4 c = search needs
 
-pub read-spec : {M : Type 1} → statement M
-read-spec =
+pub read-shape-spec : {M : Type 1} → statement M
+read-shape-spec =
     tie.close
     (tie.spec
     returns
