@@ -3,9 +3,9 @@ mod numbers;
 mod shapes;
 mod velocities;
 
+pub use shapes::outline_in;
 pub use shapes::put_shape_quantities;
 pub use shapes::shape_arrives;
-pub use shapes::shape_quantities_in;
 pub use velocities::put_velocity_quantities;
 pub use velocities::velocity_arrives;
 pub use velocities::velocity_quantities_in;
