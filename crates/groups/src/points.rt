@@ -31,8 +31,11 @@ pub fn code_points(latitudes: [Nanodegrees; 15], longitudes: [Nanodegrees; 15], 
     while i < 15 {
         let latitude = latitudes[i];
         let longitude = longitudes[i];
-        let PointCoded::Codes(latitude_code, longitude_code) = code_point(i < end, latitude, longitude)
-        else {
+        let PointCoded::Codes(latitude_code, longitude_code) = code_point(
+            i < end,
+            latitude,
+            longitude,
+        ) else {
             points.in_range = false;
             return points;
         };
