@@ -79,14 +79,8 @@ returns-5 c =
     let r = in-range q z (omega (arith, c .before .before .before .before .before .before .before .before .before .before .before .before .before .if2 .left)) (c .before .before .before .before .before .before .before .before .before .before .ranged .given .0 .0) ranged (c .before .before .before .before .before .before .code-points .result) points in
     too-large q (c .refused5 .result) (c .before .before .before .before .before .before .before .before .before .before .before .before .before .before .before .before .before .before .pre) r (c .refused5 .ensures) (rw (c .before .enum-told2 .given .1) at (c .before .before .before .code-sizes .ensures))
 
-altitude-code-requires : tie.Need-altitude-code-requires
-altitude-code-requires c κs = search needs
-
-inner-radius-code-requires : tie.Need-inner-radius-code-requires
-inner-radius-code-requires c κs = search needs
-
-joined-requires : tie.Need-joined-requires
-joined-requires c κs = search needs
+outlined-requires : tie.Need-outlined-requires
+outlined-requires c κs = search needs
 
 returns-6 : tie.Need-returns-6
 returns-6 c =
@@ -96,7 +90,7 @@ returns-6 c =
     let points = c .before .before .before .before .before .before .before .before .before .code-points .ensures .coded (not-false _ (c .before .before .before .before .before .before .before .if3 .left)) in
     let r = in-range q z (omega (arith, c .before .before .before .before .before .before .before .before .before .before .before .before .before .before .before .before .if2 .left)) (c .before .before .before .before .before .before .before .before .before .before .before .before .before .ranged .given .0 .0) ranged (c .before .before .before .before .before .before .before .before .before .code-points .result) points in
     let sized = rw (c .before .before .before .before .sizes .given .1) at (c .before .before .before .before .before .before .code-sizes .ensures) in
-    shape-done q (c .before .before .before .before .before .before .before .before .before .before .before .before .before .ranged .given .0 .0) (c .before .before .before .before .sizes .given .0 .0) (c .before .before .before .before .before .before .before .before .before .code-points .result) (c .before .before .altitude-code .result) (c .before .inner-radius-code .result) r ranged sized points (c .before .before .altitude-code .ensures) (c .before .inner-radius-code .ensures) (c .before .before .before .before .before .before .before .before .before .before .before .before .before .before .before .before .before .before .before .before .before .pre) (c .joined .result) (c .joined .ensures)
+    shape-done q (c .before .before .before .before .before .before .before .before .before .before .before .before .before .ranged .given .0 .0) (c .before .before .before .before .sizes .given .0 .0) (c .before .before .before .before .before .before .before .before .before .code-points .result) (c .before .before .outlined .result) r ranged sized points (c .before .before .outlined .ensures) (c .before .before .before .before .before .before .before .before .before .before .before .before .before .before .before .before .before .before .before .before .before .pre)
 
 pub coded-spec : {M : Type 1} → statement M
 coded-spec =
@@ -121,7 +115,5 @@ coded-spec =
     enum-told-2
     refused-requires-5
     returns-5
-    altitude-code-requires
-    inner-radius-code-requires
-    joined-requires
+    outlined-requires
     returns-6)
