@@ -23,7 +23,7 @@ use Rattle.quantities.specs.Shapes.{quantityAt, quantityRows, RecordOf, zeroDeg
 use Rattle.groups.specs.Points.{PointKept}
 use Rattle.cells.specs.Answers.{givenRoom}
 use Rattle.cells.specs.Quantities.{quantityIn}
-use Rattle.code_cells.specs.Shapes.{pointCells, shapeCells}
+use Rattle.code_cells.specs.Shapes.{pointCells, shapeCells, Ended}
 use Rattle.quantity_cells.specs.Shapes.{quantitiesIn, Arrives}
 
 abbrev pub CodeCellsAnswer : Type 0 → List Row → ℕ → Quantities → ℕ → Type 0
@@ -55,6 +55,9 @@ NoneFrom cells first = (at : ℕ) → first ≤ at → at < 44 → quantityIn ce
 pub record PutsPoints (cells : List ℤ) (n : ℕ) (before after : List ℕ) : Type 0 where
   pub latitudes : List LatitudeCode
   pub longitudes : List LongitudeCode
+  pub all-latitudes : length latitudes ≡ 15
+  pub all-longitudes : length longitudes ≡ 15
   pub coded-latitudes : (i : ℕ) → i < n → Coding field.latitude (getD (quantitiesIn cells .latitudes) i zeroDegrees) (done (getD latitudes i zeroLatitude))
   pub coded-longitudes : (i : ℕ) → i < n → Coding field.longitude (getD (quantitiesIn cells .longitudes) i zeroDegrees) (done (getD longitudes i zeroLongitude))
+  pub ended : Ended latitudes longitudes n
   pub put : after ≡ sets before 16 (pointCells latitudes longitudes n)

@@ -60,7 +60,7 @@ module _ (q : ShapeQuantities) where
 
   -- ---- 7
 
-  module _ (z : RestZero used-groups q) (axes : q .«semi_minor» .0 ≤ q .«semi_major» .0) (r : Ranged) (codes : RangedCodes (used-groups .arc) q r) (p : Points) (points : PointsCodes (q .latitudes) (q .longitudes) (q .count) p) where
+  module _ (z : RestZero used-groups q) (axes : q .«semi_minor» .0 ≤ q .«semi_major» .0) (r : Ranged) (codes : RangedCodes (used-groups .arc) q r) (points : PointsKept (q .latitudes) (q .longitudes) (q .count)) where
     counted : pointsOf (q .kind) (q .count) ≡ q .count
     counted = points-counted (q .kind) (q .count) (λ e. z .counts (count-idle (q .kind) (q .count) e))
 
@@ -79,8 +79,8 @@ module _ (q : ShapeQuantities) where
     in-range-used place.included u =
         not-refused field.included (q .included) (r .included) 7
         (subst (λ (b : Bool). IncludedCodes b (q .included) (r .included)) (active (q .kind) (q .count) layout.included (omega arith) (omega arith) (grouped (q .kind) .includeds) u) (codes .includeds))
-    in-range-used (place.latitude (suc i)) u = not-refused field.latitude (getD (q .latitudes) i zeroDegrees) (getD (p .latitudes) i zeroLatitude) 7 (points .each i .latitudes (latitude-counted (q .kind) (q .count) counted i u))
-    in-range-used (place.longitude (suc i)) u = not-refused field.longitude (getD (q .longitudes) i zeroDegrees) (getD (p .longitudes) i zeroLongitude) 7 (points .each i .longitudes (longitude-counted (q .kind) (q .count) counted i u))
+    in-range-used (place.latitude (suc i)) u = points i .latitudes (latitude-counted (q .kind) (q .count) counted i u)
+    in-range-used (place.longitude (suc i)) u = points i .longitudes (longitude-counted (q .kind) (q .count) counted i u)
     in-range-used place.bearing u = none layout.bearing refl u
     in-range-used place.horizontalSpeed u = none layout.horizontalSpeed refl u
     in-range-used place.verticalSpeed u = none layout.verticalSpeed refl u
@@ -100,8 +100,8 @@ module _ (q : ShapeQuantities) where
     in-range-unused place.innerRadius e = ap {B = Millimetres} (λ (n : ℕ). record { 0 = n }) (z .numbers .inner-radii (idle (q .kind) (q .count) layout.innerRadius (omega arith) (omega arith) refl e))
     in-range-unused place.offset e = ap {B = Millidegrees} (λ (n : ℕ). record { 0 = n }) (z .numbers .offsets (idle (q .kind) (q .count) layout.offset (omega arith) (omega arith) (grouped (q .kind) .offsets) e))
     in-range-unused place.included e = ap {B = Millidegrees} (λ (n : ℕ). record { 0 = n }) (z .numbers .includeds (idle (q .kind) (q .count) layout.included (omega arith) (omega arith) (grouped (q .kind) .includeds) e))
-    in-range-unused (place.latitude (suc i)) e = points .each i .no-latitudes (latitude-past (q .kind) (q .count) counted i e) .0
-    in-range-unused (place.longitude (suc i)) e = points .each i .no-longitudes (longitude-past (q .kind) (q .count) counted i e) .0
+    in-range-unused (place.latitude (suc i)) e = points i .no-latitudes (latitude-past (q .kind) (q .count) counted i e)
+    in-range-unused (place.longitude (suc i)) e = points i .no-longitudes (longitude-past (q .kind) (q .count) counted i e)
     in-range-unused place.bearing e = refl
     in-range-unused place.horizontalSpeed e = refl
     in-range-unused place.verticalSpeed e = refl
