@@ -10,7 +10,7 @@ use lib.ListN.{length, getD, set, replicate, length-set, List·getD-eq-default}
 use lib.Seq.{sets, getD-set-same, getD-set-other}
 use borrow.Author.Count.{below-more}
 use borrow.Author.Tests.{ltb-true, ltb-false, lt-ltb, le-ltb, eqb-true, eqb-false}
-use Rattle.ground.specs.Answers.{done}
+use Rattle.ground.specs.Answers.{Decides, done}
 use Rattle.ground.specs.declared.codes.LatitudeCode.{LatitudeCode}
 use Rattle.ground.specs.declared.codes.LongitudeCode.{LongitudeCode}
 use Rattle.ground.specs.declared.quantities.Nanodegrees.{Nanodegrees}
@@ -19,13 +19,16 @@ use Rattle.fields.specs.Fields as field
 use Rattle.layout.specs.Shapes.{upto, zeroLatitude, zeroLongitude}
 use Rattle.trips.proofs.ShapeRecords.{length-upto, at-upto}
 use Rattle.quantities.specs.Shapes.{zeroDegrees}
+use Rattle.quantities.proofs.TestLaws.{never}
+use Rattle.quantities.proofs.ZeroLaws.{not-refused}
+use Rattle.groups.specs.declared.points.Points.{Points}
 use Rattle.groups.specs.declared.points.PointCoded.{PointCoded}
 use Rattle.groups.specs.Points.{PointKept, PointCodes, CodesPoint, PointsKept, PointsCodes}
 use Rattle.cells.specs.Quantities.{quantityIn}
 use Rattle.code_cells.specs.Shapes.{pointCell, pointCells, Ended}
 use Rattle.code_cells.proofs.PointLaws.{more}
 use Rattle.quantity_cells.specs.Shapes.{coordinateIn, quantitiesIn}
-use Rattle.cell_records.specs.Records.{UsedKept, NoneFrom, PutsPoints}
+use Rattle.cell_records.specs.Records.{UsedKept, NoneFrom, UsedCodes, PointsInRange, PutsPoints}
 
 module _ (cells : List ℤ) where
   latitude-at : (i : ℕ) → i < 15 → getD (quantitiesIn cells .latitudes) i zeroDegrees ≡ coordinateIn cells 14 i
@@ -107,9 +110,9 @@ zeros z zero k = refl
 zeros z (suc n) zero = refl
 zeros z (suc n) (suc k) = zeros z n k
 
-module _ (cells : List ℤ) {before : List ℕ} where
-  pub none-put : PutsPoints cells 0 before before
-  none-put = record {
+module _ (cells : List ℤ) where
+  pub none-coded : UsedCodes cells 0
+  none-coded = record {
     latitudes = replicate 15 zeroLatitude;
     longitudes = replicate 15 zeroLongitude;
     all-latitudes = refl;
@@ -117,44 +120,70 @@ module _ (cells : List ℤ) {before : List ℕ} where
     coded-latitudes = λ i h. absurd (omega arith);
     coded-longitudes = λ i h. absurd (omega arith);
     ended = record { most = omega arith; no-latitude = λ i h. zeros zeroLatitude 15 i; no-longitude = λ i h. zeros zeroLongitude 15 i };
-    put = refl;
   }
 
-  module _ {out : List ℕ} (i : ℕ) (p : PutsPoints cells i before out) (l : i < 15) {a : LatitudeCode} {b : LongitudeCode} where
-    pub one-put : PointCodes true (getD (quantitiesIn cells .latitudes) i zeroDegrees) (getD (quantitiesIn cells .longitudes) i zeroDegrees) a b → PutsPoints cells (i + 1) before (sets out (16 + 3 * i) (pointCell a b))
-    one-put codes =
-        let s = p .all-latitudes in
-        let t = p .all-longitudes in
-        let north : i < length (p .latitudes) = omega arith in
-        let east : i < length (p .longitudes) = omega arith in
-        record {
-          latitudes = set (p .latitudes) i a;
-          longitudes = set (p .longitudes) i b;
-          all-latitudes = length-set (p .latitudes) i a ∙ s;
-          all-longitudes = length-set (p .longitudes) i b ∙ t;
-          coded-latitudes = upto-it (p .latitudes) zeroLatitude i a (λ k c. Coding field.latitude (getD (quantitiesIn cells .latitudes) k zeroDegrees) (done c)) north (p .coded-latitudes) (codes .latitudes refl);
-          coded-longitudes = upto-it (p .longitudes) zeroLongitude i b (λ k c. Coding field.longitude (getD (quantitiesIn cells .longitudes) k zeroDegrees) (done c)) east (p .coded-longitudes) (codes .longitudes refl);
-          ended = record {
-            most = omega arith;
-            no-latitude = after-it (p .latitudes) zeroLatitude i a (p .ended .no-latitude);
-            no-longitude = after-it (p .longitudes) zeroLongitude i b (p .ended .no-longitude);
-          };
-          put =
-              more (set (p .latitudes) i a) (set (p .longitudes) i b) before out i
-              (p .put ∙ ap (sets before 16) (sym (before-it (p .latitudes) (p .longitudes) i a b i (omega arith))))
-              (sym (getD-set-same (p .latitudes) i a zeroLatitude north)) (sym (getD-set-same (p .longitudes) i b zeroLongitude east));
-        }
+  module _ (i : ℕ) (l : i < 15) (u : UsedCodes cells i) {a : LatitudeCode} {b : LongitudeCode} (codes : PointCodes true (getD (quantitiesIn cells .latitudes) i zeroDegrees) (getD (quantitiesIn cells .longitudes) i zeroDegrees) a b) where
+    north : i < length (u .latitudes)
+    north = let s = u .all-latitudes in omega arith
 
--- what is put are the codes of points that are all kept
-pub points-codes : {cells : List ℤ} {n : ℕ} {before after : List ℕ} (p : PutsPoints cells n before after) → PointsKept (quantitiesIn cells .latitudes) (quantitiesIn cells .longitudes) n
-    → PointsCodes (quantitiesIn cells .latitudes) (quantitiesIn cells .longitudes) n (record { «in_range» = true; latitudes = p .latitudes; longitudes = p .longitudes })
-points-codes {cells} {n} p kept = record {
-  all-latitudes = p .all-latitudes;
-  all-longitudes = p .all-longitudes;
-  each = λ i. record {
-    latitudes = λ e. p .coded-latitudes i (ltb-true i n e);
-    longitudes = λ e. p .coded-longitudes i (ltb-true i n e);
-    no-latitudes = λ e. (kept i .no-latitudes e, p .ended .no-latitude i (ltb-false i n e));
-    no-longitudes = λ e. (kept i .no-longitudes e, p .ended .no-longitude i (ltb-false i n e));
-  };
-}
+    east : i < length (u .longitudes)
+    east = let s = u .all-longitudes in omega arith
+
+    pub one-coded : UsedCodes cells (i + 1)
+    one-coded = record {
+      latitudes = set (u .latitudes) i a;
+      longitudes = set (u .longitudes) i b;
+      all-latitudes = length-set (u .latitudes) i a ∙ u .all-latitudes;
+      all-longitudes = length-set (u .longitudes) i b ∙ u .all-longitudes;
+      coded-latitudes = upto-it (u .latitudes) zeroLatitude i a (λ k c. Coding field.latitude (getD (quantitiesIn cells .latitudes) k zeroDegrees) (done c)) north (u .coded-latitudes) (codes .latitudes refl);
+      coded-longitudes = upto-it (u .longitudes) zeroLongitude i b (λ k c. Coding field.longitude (getD (quantitiesIn cells .longitudes) k zeroDegrees) (done c)) east (u .coded-longitudes) (codes .longitudes refl);
+      ended = record {
+        most = omega arith;
+        no-latitude = after-it (u .latitudes) zeroLatitude i a (u .ended .no-latitude);
+        no-longitude = after-it (u .longitudes) zeroLongitude i b (u .ended .no-longitude);
+      };
+    }
+
+  pub one-put : {before out : List ℕ} (i : ℕ) → i < 15 → PutsPoints cells i before out → {a : LatitudeCode} {b : LongitudeCode}
+      → PointCodes true (getD (quantitiesIn cells .latitudes) i zeroDegrees) (getD (quantitiesIn cells .longitudes) i zeroDegrees) a b → PutsPoints cells (i + 1) before (sets out (16 + 3 * i) (pointCell a b))
+  unfolding one-coded
+  one-put {before} {out} i l p {a} {b} codes =
+      let u = p .codes in
+      record {
+        codes = one-coded i l u codes;
+        put =
+            more (set (u .latitudes) i a) (set (u .longitudes) i b) before out i
+            (p .put ∙ ap (sets before 16) (sym (before-it (u .latitudes) (u .longitudes) i a b i (omega arith))))
+            (sym (getD-set-same (u .latitudes) i a zeroLatitude (north i l u codes))) (sym (getD-set-same (u .longitudes) i b zeroLongitude (east i l u codes)));
+      }
+
+-- ---- the codes of points that are all kept
+
+module _ {cells : List ℤ} {n : ℕ} (u : UsedCodes cells n) where
+  abbrev pub pointsOf : Points
+  pointsOf = record { «in_range» = true; latitudes = u .latitudes; longitudes = u .longitudes }
+
+  pub points-codes : PointsKept (quantitiesIn cells .latitudes) (quantitiesIn cells .longitudes) n → PointsCodes (quantitiesIn cells .latitudes) (quantitiesIn cells .longitudes) n pointsOf
+  points-codes kept = record {
+    all-latitudes = u .all-latitudes;
+    all-longitudes = u .all-longitudes;
+    each = λ i. record {
+      latitudes = λ e. u .coded-latitudes i (ltb-true i n e);
+      longitudes = λ e. u .coded-longitudes i (ltb-true i n e);
+      no-latitudes = λ e. (kept i .no-latitudes e, u .ended .no-latitude i (ltb-false i n e));
+      no-longitudes = λ e. (kept i .no-longitudes e, u .ended .no-longitude i (ltb-false i n e));
+    };
+  }
+
+  pub codes-used : UsedKept cells n
+  codes-used i h = record {
+    latitudes = λ e. not-refused field.latitude (getD (quantitiesIn cells .latitudes) i zeroDegrees) (getD (u .latitudes) i zeroLatitude) 7 (u .coded-latitudes i h);
+    longitudes = λ e. not-refused field.longitude (getD (quantitiesIn cells .longitudes) i zeroDegrees) (getD (u .longitudes) i zeroLongitude) 7 (u .coded-longitudes i h);
+    no-latitudes = never refl;
+    no-longitudes = never refl;
+  }
+
+  -- which the test of the cells after them decides
+  pub kept-by : (b : Bool) → n ≤ 15 → Decides b (NoneFrom cells (14 + 2 * n)) → PointsInRange cells n b
+  kept-by true few d = record { kept = all-kept cells n few codes-used d; codes = u }
+  kept-by false few d = λ h. d (none-kept cells n few h)

@@ -1,6 +1,6 @@
 -- CODING the quantities that cells say: 2, 4, then 7 also for a quantity that does not arrive in its width, 8. Assumes nothing.
 use mathlib.Core.Path.{_≡_}
-use mathlib.Core.Bool.{true}
+use mathlib.Core.Bool.{Bool, true, false}
 use mathlib.Core.List.{List, _++_}
 use Prim.Native.Nat.{ℕ, _≤_, _<_}
 use lib.IntN.{ℤ, pos}
@@ -20,7 +20,7 @@ use Rattle.quantities.specs.declared.shapes.ShapeCoded.{ShapeCoded}
 use Rattle.quantities.specs.Places.{Quantities}
 use Rattle.quantities.specs.Promises.{CodeAnswer, Given}
 use Rattle.quantities.specs.Shapes.{quantityAt, quantityRows, RecordOf, zeroDegrees}
-use Rattle.groups.specs.Points.{PointKept}
+use Rattle.groups.specs.Points.{PointKept, PointsKept}
 use Rattle.cells.specs.Answers.{givenRoom}
 use Rattle.cells.specs.Quantities.{quantityIn}
 use Rattle.code_cells.specs.Shapes.{pointCells, shapeCells, Ended}
@@ -51,8 +51,8 @@ UsedKept cells n = (i : ℕ) → i < n → PointKept true (getD (quantitiesIn ce
 abbrev pub NoneFrom : List ℤ → ℕ → Type 0
 NoneFrom cells first = (at : ℕ) → first ≤ at → at < 44 → quantityIn cells at ≡ pos 0
 
--- the codes of the first n points, put in their places
-pub record PutsPoints (cells : List ℤ) (n : ℕ) (before after : List ℕ) : Type 0 where
+-- the codes of the first n, and zeros after them
+pub record UsedCodes (cells : List ℤ) (n : ℕ) : Type 0 where
   pub latitudes : List LatitudeCode
   pub longitudes : List LongitudeCode
   pub all-latitudes : length latitudes ≡ 15
@@ -60,4 +60,21 @@ pub record PutsPoints (cells : List ℤ) (n : ℕ) (before after : List ℕ) : T
   pub coded-latitudes : (i : ℕ) → i < n → Coding field.latitude (getD (quantitiesIn cells .latitudes) i zeroDegrees) (done (getD latitudes i zeroLatitude))
   pub coded-longitudes : (i : ℕ) → i < n → Coding field.longitude (getD (quantitiesIn cells .longitudes) i zeroDegrees) (done (getD longitudes i zeroLongitude))
   pub ended : Ended latitudes longitudes n
-  pub put : after ≡ sets before 16 (pointCells latitudes longitudes n)
+
+-- all are kept, so that there are codes
+pub record CodedPoints (cells : List ℤ) (n : ℕ) : Type 0 where
+  pub kept : PointsKept (quantitiesIn cells .latitudes) (quantitiesIn cells .longitudes) n
+  pub codes : UsedCodes cells n
+
+abbrev pub UsedInRange : List ℤ → ℕ → Bool → Type 0
+UsedInRange cells n true = UsedCodes cells n
+UsedInRange cells n false = UsedKept cells n → ⊥
+
+abbrev pub PointsInRange : List ℤ → ℕ → Bool → Type 0
+PointsInRange cells n true = CodedPoints cells n
+PointsInRange cells n false = PointsKept (quantitiesIn cells .latitudes) (quantitiesIn cells .longitudes) n → ⊥
+
+-- the codes of the first n, put in their places
+pub record PutsPoints (cells : List ℤ) (n : ℕ) (before after : List ℕ) : Type 0 where
+  pub codes : UsedCodes cells n
+  pub put : after ≡ sets before 16 (pointCells (codes .latitudes) (codes .longitudes) n)

@@ -55,10 +55,11 @@ fn code_formed(codes: &mut [u32], given: &[i64], outline: ShapeQuantities) -> Ou
     let SizesCoded::Codes(sizes) = groups::code_sizes(outline) else {
         return Outcome::Refused(Refusal::UncertaintyTooLarge);
     };
+    let shape = groups::outlined(outline, ranged, sizes);
     if codes.len() < 61 {
         return Outcome::Refused(Refusal::BufferTooShort);
     }
-    code_cells::put_singles(codes, groups::outlined(outline, ranged, sizes));
+    code_cells::put_singles(codes, shape);
     points::put(codes, given, outline.count);
     code_cells::clear_from(codes, outline.count);
     Outcome::Done

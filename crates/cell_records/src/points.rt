@@ -4,15 +4,13 @@ use groups::PointCoded;
 ghost use Prim.Native.Nat.{_≤_};
 ghost use lib.ListN.{length};
 ghost use Rattle.ground.specs.Answers.{Decides};
-ghost use Rattle.groups.specs.Points.{PointsKept};
-ghost use Rattle.quantity_cells.specs.Shapes.{quantitiesIn};
-ghost use Rattle.cell_records.specs.Records.{UsedKept, NoneFrom, PutsPoints};
+ghost use Rattle.cell_records.specs.Records.{UsedKept, NoneFrom, UsedInRange, PointsInRange, PutsPoints};
 
 // Whether the first n points are in range, and the others zero.
 pub fn in_range(given: &[i64], n: u8) -> bool
     requires { ⌜ 44 ≤ length (now given) ⌝ }
     requires { ⌜ n ≤ 15 ⌝ }
-    ensures { λ r. ⌜ Decides r (PointsKept (quantitiesIn (now (given .entry)) .latitudes) (quantitiesIn (now (given .entry)) .longitudes) n) ⌝ }
+    ensures { λ r. ⌜ PointsInRange (now (given .entry)) n r ⌝ }
 {
     let end = n as usize;
     if !used_in_range(given, end) {
@@ -24,7 +22,7 @@ pub fn in_range(given: &[i64], n: u8) -> bool
 fn used_in_range(given: &[i64], end: usize) -> bool
     requires { ⌜ 44 ≤ length (now given) ⌝ }
     requires { ⌜ end ≤ 15 ⌝ }
-    ensures { λ r. ⌜ Decides r (UsedKept (now (given .entry)) end) ⌝ }
+    ensures { λ r. ⌜ UsedInRange (now (given .entry)) end r ⌝ }
 {
     let mut i = 0;
     while i < end {

@@ -45,9 +45,9 @@ loop-again c = (
   omega arith,
   omega arith,
   ⊎-elim
-  (λ w. rw (w .1) (λ h. w .0 .taken (ap (ofZ w64) (h (c .before .before .before .loop .at) (omega arith) (omega arith)))))
-  (λ w. rw (w .1) (decided (c .before .before .before .loop .all) (λ h. below-more _ _ h (λ l. signed-zero (record { sfits = c .before .if12 .given }) (w .0 .left))) (λ h k m l. h k (omega arith) l) (c .before .before .before .loop .inv .2)))
-  (c .if1 .came),
+      (λ w. rw (w .1) (λ h. w .0 .taken (ap (ofZ w64) (h (c .before .before .before .loop .at) (omega arith) (omega arith)))))
+      (λ w. rw (w .1) (decided (c .before .before .before .loop .all) (λ h. below-more _ _ h (λ l. signed-zero (record { sfits = c .before .if12 .given }) (w .0 .left))) (λ h k m l. h k (omega arith) l) (c .before .before .before .loop .inv .2)))
+      (c .if1 .came),
 )
 
 returns : tie.Need-returns Inv-loop μ-loop

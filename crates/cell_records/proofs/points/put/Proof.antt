@@ -8,7 +8,7 @@ use denote.Ref.{now}
 use borrow.Author.Needs.{needs}
 use Rattle.cells.proofs.NumberLaws.{cell-read}
 use Rattle.cell_records.specs.Records.{PutsPoints}
-use Rattle.cell_records.proofs.PointLaws.{coded-at, none-put, one-put}
+use Rattle.cell_records.proofs.PointLaws.{coded-at, none-coded, one-put}
 use Rattle.cell_records.proofs.points.put.Statement.{statement}
 use Rattle.cell_records.proofs.points.put.Tie as tie
 
@@ -19,7 +19,7 @@ abbrev μ-loop : tie.MeasureT-loop
 μ-loop out₀ given n end i₀ out i = n - i
 
 loop-holds : tie.Need-loop-holds Inv-loop μ-loop
-loop-holds c = (omega arith, none-put _, refl)
+loop-holds c = (omega arith, record { codes = none-coded _; put = refl }, refl)
 
 mul-t11 : tie.Need-mul-t11 Inv-loop μ-loop
 mul-t11 c = search needs
@@ -69,7 +69,7 @@ loop-again c =
     let l = c .before .before .before .before .before .loop in
     let point = coded-at cells (l .i) (omega arith) (c .before .code-point .result) (rw (cell-read (c .before .before .before .t15 .given), cell-read (c .before .before .t152 .given)) at (c .before .code-point .ensures)) in
     ⊎-elim
-    (λ w. (omega arith, rw (w .7 ∙ w .4 .ensures) (one-put cells (l .i) (l .inv .1) (omega arith) (rw (w .1 .given .1) at point)), ap length (w .7) ∙ w .4 .kept .0 ∙ l .inv .2))
+    (λ w. (omega arith, rw (w .7 ∙ w .4 .ensures) (one-put cells (l .i) (omega arith) (l .inv .1) (rw (w .1 .given .1) at point)), ap length (w .7) ∙ w .4 .kept .0 ∙ l .inv .2))
     (λ w. absurd ((rw (w .1 .given .1) at point) (c .before .before .before .before .before .before .before .pre .1 .1 .1 (l .i) (omega arith))))
     (c .match .came)
 

@@ -1,24 +1,23 @@
--- The points passed are in range; one that has no codes is not.
+-- The points passed have their codes; one that has none is out of range.
 use Prim.Native.Nat.{ℕ, _-_, _≤_}
+use mathlib.Core.Path.{_≡_}
 use native.Mathlib.Omega.{arith}
 use denote.Ref.{now}
 use borrow.Author.Needs.{needs}
-use borrow.Author.Count.{below-more}
-use Rattle.groups.proofs.PointLaws.{codes-kept}
 use Rattle.cells.proofs.NumberLaws.{cell-read}
-use Rattle.cell_records.specs.Records.{UsedKept}
-use Rattle.cell_records.proofs.PointLaws.{coded-at}
+use Rattle.cell_records.specs.Records.{UsedCodes}
+use Rattle.cell_records.proofs.PointLaws.{coded-at, none-coded, one-coded}
 use Rattle.cell_records.proofs.points.used_in_range.Statement.{statement}
 use Rattle.cell_records.proofs.points.used_in_range.Tie as tie
 
 abbrev Inv-loop : tie.InvT-loop
-Inv-loop given end i₀ i = (i ≤ end) × UsedKept given i
+Inv-loop given end i₀ i = (i ≤ end) × UsedCodes given i
 
 abbrev μ-loop : tie.MeasureT-loop
 μ-loop given end i₀ i = end - i
 
 loop-holds : tie.Need-loop-holds Inv-loop μ-loop
-loop-holds c = (omega arith, λ i h. absurd (omega arith))
+loop-holds c = (omega arith, none-coded _)
 
 mul-t7 : tie.Need-mul-t7 Inv-loop μ-loop
 mul-t7 c = search needs
@@ -63,10 +62,10 @@ loop-less : tie.Need-loop-less Inv-loop μ-loop
 loop-less c = search needs
 
 loop-again : tie.Need-loop-again Inv-loop μ-loop
-loop-again c = (omega arith, below-more _ _ (c .before .before .before .before .before .before .loop .inv .1) (codes-kept (rw (c .enum-told2 .given .1) at (coded-at (now (c .before .before .before .before .before .before .before .args .given)) (c .before .before .before .before .before .before .loop .i) (omega arith) (c .before .before .code-point .result) (rw (cell-read (c .before .before .before .before .t11 .given), cell-read (c .before .before .before .t112 .given)) at (c .before .before .code-point .ensures))))))
+loop-again c = (omega arith, one-coded (now (c .before .before .before .before .before .before .before .args .given)) (c .before .before .before .before .before .before .loop .i) (omega arith) (c .before .before .before .before .before .before .loop .inv .1) (rw (c .enum-told2 .given .1) at (coded-at (now (c .before .before .before .before .before .before .before .args .given)) (c .before .before .before .before .before .before .loop .i) (omega arith) (c .before .before .code-point .result) (rw (cell-read (c .before .before .before .before .t11 .given), cell-read (c .before .before .before .t112 .given)) at (c .before .before .code-point .ensures)))))
 
 returns-2 : tie.Need-returns-2 Inv-loop μ-loop
-returns-2 c = λ k h. c .before .loop .inv .1 k (omega arith)
+returns-2 c = let e : c .before .loop .i ≡ c .before .before .args .end = omega arith in rw e at (c .before .loop .inv .1)
 
 pub used-in-range-spec : {M : Type 1} → statement M
 used-in-range-spec =
