@@ -1,49 +1,44 @@
+-- The answer to the form, then to what arrives, and the rest where both are met.
 use borrow.Author.Needs.{needs}
+use denote.Ref.{now}
+use Rattle.ground.proofs.AnswerLaws.{shown, refuted}
+use Rattle.records.specs.Kinds.{Formed}
+use Rattle.records.proofs.FormLaws.{formed}
+use Rattle.quantity_cells.specs.Shapes.{quantitiesIn}
+use Rattle.cell_records.proofs.IntoLaws.{form-into, misfit-into}
 use Rattle.cell_records.proofs.code.Statement.{statement}
 use Rattle.cell_records.proofs.code.Tie as tie
-use Rattle.cell_records.proofs.code.Reads as reads
-use Rattle.cell_records.proofs.code.Lts as lts
-use Rattle.cell_records.proofs.code_formed.Reads as code-formed-reads
-use Rattle.quantity_cells.proofs.outline_in.Reads as outline-in-reads
-use Rattle.quantity_cells.proofs.shape_arrives.Reads as shape-arrives-reads
-use Rattle.records.proofs.form.Reads as form-reads
 
--- src/lib.rt:22:9
+has-form : (c : tie.After-enum-told) → Formed (quantitiesIn (now (c .before .before .before .before .before .args .given)))
+has-form c = formed (quantitiesIn (now (c .before .before .before .before .before .args .given))) (rw (c .enum-told .given .1, c .before .before .before .outline-in .ensures) at (c .before .before .form .ensures))
+
 outline-in-requires : tie.Need-outline-in-requires
 outline-in-requires c κs = search needs
 
--- src/lib.rt:24:36
 form-requires : tie.Need-form-requires
 form-requires c κs = search needs
 
--- src/lib.rt:24:29
 enum-known-why : tie.Need-enum-known-why
 enum-known-why c = search needs
 
--- src/lib.rt:25:9
 returns : tie.Need-returns
-returns c = ?
+returns c = form-into (now (c .before .before .before .before .before .before .args .given)) (c .before .why .given .0 .0) (rw (c .before .why .given .1, c .before .before .before .before .outline-in .ensures) at (c .before .before .before .form .ensures))
 
 enum-told : tie.Need-enum-told
 enum-told c = search needs
 
--- src/lib.rt:27:9
 shape-arrives-requires : tie.Need-shape-arrives-requires
 shape-arrives-requires c κs = search needs
 
--- src/lib.rt:28:9
 returns-2 : tie.Need-returns-2
-returns-2 c = ?
+returns-2 c = misfit-into (now (c .before .before .before .before .before .before .before .args .given)) (has-form (c .before .before)) (refuted (c .before .shape-arrives .result) (c .if1 .taken) (c .before .shape-arrives .ensures))
 
--- src/lib.rt:30:5
 code-formed-requires : tie.Need-code-formed-requires
-code-formed-requires c κs = ?
+code-formed-requires c κs = (c .before .before .before .before .before .before .before .before .pre, (c .before .before .before .before .before .before .outline-in .ensures, (has-form (c .before .before .before), shown (c .before .before .shape-arrives .result) (c .before .if1 .left) (c .before .before .shape-arrives .ensures))))
 
--- src/lib.rt:18:1
 same-length : tie.Need-same-length
 same-length c = search needs
 
--- src/lib.rt:18:1
 returns-3 : tie.Need-returns-3
 returns-3 c = search needs
 
