@@ -15,8 +15,8 @@ use Rattle.ground.specs.declared.quantities.Nanodegrees.{Nanodegrees}
 use Rattle.fields.specs.Fields as field
 use Rattle.layout.specs.Shapes.{zeroLatitude, zeroLongitude}
 use Rattle.quantities.specs.Shapes.{zeroDegrees}
-use Rattle.groups.specs.Points.{PointCodes}
-use Rattle.quantities.proofs.ZeroLaws.{zero-coded}
+use Rattle.groups.specs.Points.{PointKept, PointCodes}
+use Rattle.quantities.proofs.ZeroLaws.{zero-coded, not-refused}
 
 abbrev pub CodesAt : List Nanodegrees → List Nanodegrees → ℕ → List LatitudeCode → List LongitudeCode → ℕ → Type 0
 CodesAt xs ys n cs ds i = PointCodes (ltb i n) (getD xs i zeroDegrees) (getD ys i zeroDegrees) (getD cs i zeroLatitude) (getD ds i zeroLongitude)
@@ -44,3 +44,12 @@ module _ (xs ys : List Nanodegrees) (n : ℕ) (cs : List LatitudeCode) (ds : Lis
           let l : 15 ≤ k = ltb-false _ _ e in
           rw (List·getD-eq-default xs zeroDegrees {n = k} (omega arith), List·getD-eq-default ys zeroDegrees {n = k} (omega arith), List·getD-eq-default cs zeroLatitude {n = k} (omega arith), List·getD-eq-default ds zeroLongitude {n = k} (omega arith))
           (record { latitudes = λ _. zero-coded field.latitude refl; longitudes = λ _. zero-coded field.longitude refl; no-latitudes = λ _. (refl, refl); no-longitudes = λ _. (refl, refl) })
+
+-- a point that has its codes is in range
+pub codes-kept : {used : Bool} {x y : Nanodegrees} {c : LatitudeCode} {d : LongitudeCode} → PointCodes used x y c d → PointKept used x y
+codes-kept {used} {x} {y} {c} {d} p = record {
+  latitudes = λ e. not-refused field.latitude x c 7 (p .latitudes e);
+  longitudes = λ e. not-refused field.longitude y d 7 (p .longitudes e);
+  no-latitudes = λ e. p .no-latitudes e .0;
+  no-longitudes = λ e. p .no-longitudes e .0;
+}

@@ -1,3 +1,4 @@
+pub mod Outlines
 pub mod Ranges
 pub mod Sizes
 pub mod Points

@@ -1,9 +1,13 @@
 // The codes of a shape's quantities, group by group: those that have a range, the uncertainties, a polygon's points.
+mod outlines;
 mod points;
 mod ranges;
 mod sizes;
 
+pub use outlines::outlined;
+pub use points::PointCoded;
 pub use points::Points;
+pub use points::code_point;
 pub use points::code_points;
 pub use ranges::Ranged;
 pub use ranges::RangedCoded;

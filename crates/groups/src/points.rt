@@ -31,8 +31,11 @@ pub fn code_points(latitudes: [Nanodegrees; 15], longitudes: [Nanodegrees; 15], 
     while i < 15 {
         let latitude = latitudes[i];
         let longitude = longitudes[i];
-        let PointCoded::Codes(latitude_code, longitude_code) = point(i < end, latitude, longitude)
-        else {
+        let PointCoded::Codes(latitude_code, longitude_code) = code_point(
+            i < end,
+            latitude,
+            longitude,
+        ) else {
             points.in_range = false;
             return points;
         };
@@ -43,7 +46,7 @@ pub fn code_points(latitudes: [Nanodegrees; 15], longitudes: [Nanodegrees; 15], 
     points
 }
 
-fn point(used: bool, latitude: Nanodegrees, longitude: Nanodegrees) -> PointCoded
+pub fn code_point(used: bool, latitude: Nanodegrees, longitude: Nanodegrees) -> PointCoded
     ensures { λ r. ⌜ CodesPoint used latitude longitude r ⌝ }
 {
     if used {

@@ -2,7 +2,7 @@
 use mathlib.Core.List.{List, [], _∷_, _++_}
 use Prim.Native.Nat.{ℕ, zero, suc, _+_, _*_, _≤_, _<_}
 use lib.IntN.{ℤ, pos}
-use lib.ListN.{getD}
+use lib.ListN.{getD, replicate}
 use Rattle.ground.specs.declared.quantities.Nanodegrees.{Nanodegrees}
 use Rattle.layout.specs.Layout.{typeOf}
 use Rattle.layout.specs.Shapes.{kindOf, upto}
@@ -51,6 +51,27 @@ quantitiesIn cells = record {
   count = octetOf (quantityIn cells 1);
   latitudes = upto 15 (coordinateIn cells 14);
   longitudes = upto 15 (coordinateIn cells 15);
+}
+
+-- their outline: the quantities but for the points
+abbrev pub quantityOutlineIn : List ℤ → ShapeQuantities
+quantityOutlineIn cells = record {
+  kind = kindOf (octetOf (quantityIn cells 0));
+  latitude = record { 0 = quantityIn cells 2 };
+  longitude = record { 0 = quantityIn cells 3 };
+  altitude = record { 0 = signedOf (quantityIn cells 4) };
+  uncertainty = record { 0 = naturalOf (quantityIn cells 5) };
+  «semi_major» = record { 0 = naturalOf (quantityIn cells 6) };
+  «semi_minor» = record { 0 = naturalOf (quantityIn cells 7) };
+  orientation = record { 0 = naturalOf (quantityIn cells 8) };
+  «altitude_uncertainty» = record { 0 = naturalOf (quantityIn cells 9) };
+  «inner_radius» = record { 0 = naturalOf (quantityIn cells 10) };
+  offset = record { 0 = naturalOf (quantityIn cells 11) };
+  included = record { 0 = naturalOf (quantityIn cells 12) };
+  confidence = confidenceOf (quantityIn cells 13);
+  count = octetOf (quantityIn cells 1);
+  latitudes = replicate 15 zeroDegrees;
+  longitudes = replicate 15 zeroDegrees;
 }
 
 -- ---- Quantities arrive signed in 64 bits for coordinates, signed in 32 for the altitude, unsigned in 32 otherwise.

@@ -4,9 +4,9 @@ mod shapes;
 mod velocities;
 
 pub use shapes::clear_from;
+pub use shapes::outline_in;
 pub use shapes::put_singles;
 pub use shapes::shape_arrives;
-pub use shapes::shape_quantities_in;
 pub use velocities::put_velocity_quantities;
 pub use velocities::velocity_arrives;
 pub use velocities::velocity_quantities_in;

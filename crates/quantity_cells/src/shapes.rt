@@ -14,9 +14,8 @@ ghost use lib.IntN.{pos};
 ghost use lib.ListN.{length, replicate};
 ghost use lib.Seq.{sets};
 ghost use Rattle.ground.specs.Answers.{Decides};
-ghost use Rattle.layout.specs.Shapes.{upto};
 ghost use Rattle.cells.specs.Quantities.{naturalOf, quantityIn};
-ghost use Rattle.quantity_cells.specs.Shapes.{singleCells, quantitiesIn, coordinateIn, Arrives, NaturalsArrive};
+ghost use Rattle.quantity_cells.specs.Shapes.{singleCells, quantityOutlineIn, Arrives, NaturalsArrive};
 
 // Puts the cells that are no point's into the first of the array.
 pub fn put_singles(out: &mut [i64], quantities: ShapeQuantities)
@@ -66,17 +65,15 @@ fn single_cells(quantities: ShapeQuantities) -> [i64; 14]
     ]
 }
 
-// The quantities of the cells.
-pub fn shape_quantities_in(given: &[i64]) -> ShapeQuantities
+// The quantities of the cells but for their points.
+pub fn outline_in(given: &[i64]) -> ShapeQuantities
     requires { ⌜ 44 ≤ length (now given) ⌝ }
-    ensures { λ r. ⌜ r ≡ quantitiesIn (now (given .entry)) ⌝ }
+    ensures { λ r. ⌜ r ≡ quantityOutlineIn (now (given .entry)) ⌝ }
 {
     let kind = layout::kind_of(numbers::octet(Whole(given[0])));
     let count = numbers::octet(Whole(given[1]));
     let altitude = cells::signed(Whole(given[4]));
     let confidence = numbers::confidence(Whole(given[13]));
-    let latitudes = coordinates_in(given, 14);
-    let longitudes = coordinates_in(given, 15);
     ShapeQuantities {
         kind,
         latitude: Nanodegrees(given[2]),
@@ -92,24 +89,9 @@ pub fn shape_quantities_in(given: &[i64]) -> ShapeQuantities
         included: Millidegrees(natural_at(given, 12)),
         confidence,
         count,
-        latitudes,
-        longitudes,
+        latitudes: [Nanodegrees(0); 15],
+        longitudes: [Nanodegrees(0); 15],
     }
-}
-
-// The coordinates in every other cell from that one on.
-fn coordinates_in(given: &[i64], first: usize) -> [Nanodegrees; 15]
-    requires { ⌜ 44 ≤ length (now given) ⌝ }
-    requires { ⌜ first ≤ 15 ⌝ }
-    ensures { λ r. ⌜ r ≡ upto 15 (coordinateIn (now (given .entry)) first) ⌝ }
-{
-    let mut coordinates = [Nanodegrees(0); 15];
-    let mut i = 0;
-    while i < 15 {
-        coordinates[i] = Nanodegrees(given[first + 2 * i]);
-        i += 1;
-    }
-    coordinates
 }
 
 fn natural_at(given: &[i64], at: usize) -> u32

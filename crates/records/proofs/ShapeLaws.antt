@@ -10,8 +10,6 @@ use Rattle.ground.specs.declared.refusals.Outcome.{Outcome}
 use Rattle.ground.specs.declared.refusals.Outcome.the-variants.{Done}
 use Rattle.ground.specs.declared.refusals.Refusal.{Refusal}
 use Rattle.ground.specs.declared.refusals.Refusal.the-variants.{OutOfRange, UncertaintyTooLarge}
-use Rattle.ground.specs.declared.codes.AltitudeCode.{AltitudeCode}
-use Rattle.ground.specs.declared.codes.InnerRadiusCode.{InnerRadiusCode}
 use Rattle.ground.specs.declared.quantities.Millidegrees.{Millidegrees}
 use Rattle.ground.specs.declared.quantities.Millimetres.{Millimetres}
 use Rattle.fields.specs.Fields.{Coding}
@@ -37,9 +35,10 @@ use Rattle.groups.specs.declared.sizes.Sizes.{Sizes}
 use Rattle.unused.specs.declared.Uses.{Uses}
 use Rattle.unused.specs.Kinds.{usesOf}
 use Rattle.records.specs.Kinds.{Formed}
+use Rattle.groups.specs.Outlines.{outlineJoined, Outlined}
 use Rattle.groups.specs.Points.{PointsKept, PointsCodes}
 use Rattle.groups.specs.Ranges.{RangesKept, RangedCodes, IncludedCodes}
-use Rattle.records.specs.Records.{RefusedShape, shapeJoined}
+use Rattle.records.specs.Records.{RefusedShape, pointed}
 use Rattle.groups.specs.Sizes.{SizesCovered, SizeCodes}
 use Rattle.unused.specs.Unused.{RestZero}
 use Rattle.quantities.proofs.ZeroLaws.{not-refused, zero-has-code, kept}
@@ -61,7 +60,7 @@ module _ (q : ShapeQuantities) where
 
   -- ---- 7
 
-  module _ (z : RestZero used-groups q) (axes : q .«semi_minor» .0 ≤ q .«semi_major» .0) (r : Ranged) (codes : RangedCodes (used-groups .arc) q r) (p : Points) (points : PointsCodes (q .latitudes) (q .longitudes) (q .count) p) where
+  module _ (z : RestZero used-groups q) (axes : q .«semi_minor» .0 ≤ q .«semi_major» .0) (r : Ranged) (codes : RangedCodes (used-groups .arc) q r) (points : PointsKept (q .latitudes) (q .longitudes) (q .count)) where
     counted : pointsOf (q .kind) (q .count) ≡ q .count
     counted = points-counted (q .kind) (q .count) (λ e. z .counts (count-idle (q .kind) (q .count) e))
 
@@ -80,8 +79,8 @@ module _ (q : ShapeQuantities) where
     in-range-used place.included u =
         not-refused field.included (q .included) (r .included) 7
         (subst (λ (b : Bool). IncludedCodes b (q .included) (r .included)) (active (q .kind) (q .count) layout.included (omega arith) (omega arith) (grouped (q .kind) .includeds) u) (codes .includeds))
-    in-range-used (place.latitude (suc i)) u = not-refused field.latitude (getD (q .latitudes) i zeroDegrees) (getD (p .latitudes) i zeroLatitude) 7 (points .each i .latitudes (latitude-counted (q .kind) (q .count) counted i u))
-    in-range-used (place.longitude (suc i)) u = not-refused field.longitude (getD (q .longitudes) i zeroDegrees) (getD (p .longitudes) i zeroLongitude) 7 (points .each i .longitudes (longitude-counted (q .kind) (q .count) counted i u))
+    in-range-used (place.latitude (suc i)) u = points i .latitudes (latitude-counted (q .kind) (q .count) counted i u)
+    in-range-used (place.longitude (suc i)) u = points i .longitudes (longitude-counted (q .kind) (q .count) counted i u)
     in-range-used place.bearing u = none layout.bearing refl u
     in-range-used place.horizontalSpeed u = none layout.horizontalSpeed refl u
     in-range-used place.verticalSpeed u = none layout.verticalSpeed refl u
@@ -101,8 +100,8 @@ module _ (q : ShapeQuantities) where
     in-range-unused place.innerRadius e = ap {B = Millimetres} (λ (n : ℕ). record { 0 = n }) (z .numbers .inner-radii (idle (q .kind) (q .count) layout.innerRadius (omega arith) (omega arith) refl e))
     in-range-unused place.offset e = ap {B = Millidegrees} (λ (n : ℕ). record { 0 = n }) (z .numbers .offsets (idle (q .kind) (q .count) layout.offset (omega arith) (omega arith) (grouped (q .kind) .offsets) e))
     in-range-unused place.included e = ap {B = Millidegrees} (λ (n : ℕ). record { 0 = n }) (z .numbers .includeds (idle (q .kind) (q .count) layout.included (omega arith) (omega arith) (grouped (q .kind) .includeds) e))
-    in-range-unused (place.latitude (suc i)) e = points .each i .no-latitudes (latitude-past (q .kind) (q .count) counted i e) .0
-    in-range-unused (place.longitude (suc i)) e = points .each i .no-longitudes (longitude-past (q .kind) (q .count) counted i e) .0
+    in-range-unused (place.latitude (suc i)) e = points i .no-latitudes (latitude-past (q .kind) (q .count) counted i e)
+    in-range-unused (place.longitude (suc i)) e = points i .no-longitudes (longitude-past (q .kind) (q .count) counted i e)
     in-range-unused place.bearing e = refl
     in-range-unused place.horizontalSpeed e = refl
     in-range-unused place.verticalSpeed e = refl
@@ -188,10 +187,9 @@ module _ (q : ShapeQuantities) where
 
   -- ---- the record
 
-  module _ (r : Ranged) (s : Sizes) (p : Points) (a : AltitudeCode) (b : InnerRadiusCode) (kept-all : InRange rows (q .count) at) (ranged : RangedCodes (used-groups .arc) q r) (sized : SizeCodes q s) (points : PointsCodes (q .latitudes) (q .longitudes) (q .count) p)
-      (high : Coding field.altitude (q .altitude) (done a)) (inner : Coding field.innerRadius (q .«inner_radius») (done b)) where
+  module _ (r : Ranged) (s : Sizes) (p : Points) (x : Shape) (kept-all : InRange rows (q .count) at) (ranged : RangedCodes (used-groups .arc) q r) (sized : SizeCodes q s) (points : PointsCodes (q .latitudes) (q .longitudes) (q .count) p) (outline : Outlined q r s x) where
     abbrev joined : Shape
-    joined = shapeJoined (q .kind) (q .count) a b r s p
+    joined = pointed (outlineJoined (q .kind) (q .count) (outline .altitude) (outline .inner-radius) r s) p
 
     points-are : pointsOf (q .kind) (q .count) ≡ q .count
     points-are = points-counted (q .kind) (q .count) (kept-all .uncounted)
@@ -199,14 +197,14 @@ module _ (q : ShapeQuantities) where
     each-used : (p : Place) → Used rows (rowOf p) → Coding (fieldOf p) (at p) (done (codeAt joined p))
     each-used (place.latitude zero) u = ranged .latitudes
     each-used (place.longitude zero) u = ranged .longitudes
-    each-used place.altitude u = high
+    each-used place.altitude u = outline .altitudes
     each-used place.uncertainty u = sized .uncertainties
     each-used place.semiMajor u = sized .semi-majors
     each-used place.semiMinor u = sized .semi-minors
     each-used place.orientation u = ranged .orientations
     each-used place.altitudeUncertainty u = sized .altitude-uncertainties
     each-used place.confidence u = ranged .confidences
-    each-used place.innerRadius u = inner
+    each-used place.innerRadius u = outline .inner-radii
     each-used place.offset u = ranged .offsets
     each-used place.included u = subst (λ (b : Bool). IncludedCodes b (q .included) (r .included)) (active (q .kind) (q .count) layout.included (omega arith) (omega arith) (grouped (q .kind) .includeds) u) (ranged .includeds)
     each-used (place.latitude (suc i)) u = points .each i .latitudes (latitude-counted (q .kind) (q .count) points-are i u)
@@ -220,14 +218,14 @@ module _ (q : ShapeQuantities) where
     each-unused : (p : Place) → Unused rows (rowOf p) → codeAt joined p ≡ zeroCode (fieldOf p)
     each-unused (place.latitude zero) e = zero-has-code field.latitude refl (q .latitude) (kept-all .unused (place.latitude 0) e) (r .latitude) (ranged .latitudes)
     each-unused (place.longitude zero) e = zero-has-code field.longitude refl (q .longitude) (kept-all .unused (place.longitude 0) e) (r .longitude) (ranged .longitudes)
-    each-unused place.altitude e = zero-has-code field.altitude refl (q .altitude) (kept-all .unused place.altitude e) a high
+    each-unused place.altitude e = zero-has-code field.altitude refl (q .altitude) (kept-all .unused place.altitude e) (outline .altitude) (outline .altitudes)
     each-unused place.uncertainty e = zero-has-code field.uncertainty refl (q .uncertainty) (kept-all .unused (place.uncertainty) e) (s .uncertainty) (sized .uncertainties)
     each-unused place.semiMajor e = zero-has-code field.uncertainty refl (q .«semi_major») (kept-all .unused (place.semiMajor) e) (s .«semi_major») (sized .semi-majors)
     each-unused place.semiMinor e = zero-has-code field.uncertainty refl (q .«semi_minor») (kept-all .unused (place.semiMinor) e) (s .«semi_minor») (sized .semi-minors)
     each-unused place.orientation e = zero-has-code field.orientation refl (q .orientation) (kept-all .unused (place.orientation) e) (r .orientation) (ranged .orientations)
     each-unused place.altitudeUncertainty e = zero-has-code field.altitudeUncertainty refl (q .«altitude_uncertainty») (kept-all .unused (place.altitudeUncertainty) e) (s .«altitude_uncertainty») (sized .altitude-uncertainties)
     each-unused place.confidence e = zero-has-code field.confidence refl (q .confidence) (kept-all .unused (place.confidence) e) (r .confidence) (ranged .confidences)
-    each-unused place.innerRadius e = zero-has-code field.innerRadius refl (q .«inner_radius») (kept-all .unused (place.innerRadius) e) b inner
+    each-unused place.innerRadius e = zero-has-code field.innerRadius refl (q .«inner_radius») (kept-all .unused (place.innerRadius) e) (outline .inner-radius) (outline .inner-radii)
     each-unused place.offset e = zero-has-code field.offset refl (q .offset) (kept-all .unused (place.offset) e) (r .offset) (ranged .offsets)
     each-unused place.included e = subst (λ (b : Bool). IncludedCodes b (q .included) (r .included)) (idle (q .kind) (q .count) layout.included (omega arith) (omega arith) (grouped (q .kind) .includeds) e) (ranged .includeds)
     each-unused (place.latitude (suc i)) e = points .each i .no-latitudes (latitude-past (q .kind) (q .count) points-are i e) .1
@@ -238,10 +236,10 @@ module _ (q : ShapeQuantities) where
     each-unused place.speedUncertainty e = refl
     each-unused place.verticalUncertainty e = refl
 
-    pub shape-done : Formed q → (x : Shape) → x ≡ joined → CodesShape q (record { outcome = Done; shape = x })
-    shape-done formed x e = record {
+    pub shape-done : Formed q → CodesShape q (record { outcome = Done; shape = pointed x p })
+    shape-done formed = record {
       answer = met (formed .listed) (met (formed .counted) (met kept-all (met (covered s sized) refl)));
-      shape = subst (λ (y : Shape). RecordOf q y) (sym e)
+      shape = subst (λ (y : Shape). RecordOf q (pointed y p)) (sym (outline .joined))
           (record { kinds = refl; counts = refl; all-latitudes = points .all-latitudes; all-longitudes = points .all-longitudes; each = record { used = each-used; unused = each-unused } });
     }
 

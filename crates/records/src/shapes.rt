@@ -1,22 +1,15 @@
 // A shape's record from its quantities.
 use crate::kinds;
-use ground::AltitudeCode;
-use ground::InnerRadiusCode;
 use ground::Outcome;
 use ground::Refusal;
-use groups::Points;
-use groups::Ranged;
 use groups::RangedCoded;
-use groups::Sizes;
 use groups::SizesCoded;
 use layout::Kind;
-use layout::Shape;
 use quantities::ShapeCoded;
 use quantities::ShapeQuantities;
-ghost use mathlib.Core.Path.{_≡_};
 ghost use Rattle.quantities.specs.Shapes.{CodesShape};
 ghost use Rattle.records.specs.Kinds.{Formed};
-ghost use Rattle.records.specs.Records.{RefusedShape, shapeJoined};
+ghost use Rattle.records.specs.Records.{RefusedShape};
 
 // The record of the quantities' own type, or the refusal: 2, 4, 7, 8.
 pub fn code_shape(quantities: ShapeQuantities) -> ShapeCoded
@@ -54,63 +47,14 @@ fn coded(quantities: ShapeQuantities) -> ShapeCoded
     let SizesCoded::Codes(sizes) = groups::code_sizes(quantities) else {
         return refused(Refusal::UncertaintyTooLarge);
     };
-    let altitude = lengths::altitude_code(quantities.altitude);
-    let inner_radius = lengths::inner_radius_code(quantities.inner_radius);
-    ShapeCoded {
-        outcome: Outcome::Done,
-        shape: joined(
-            kind,
-            quantities.count,
-            altitude,
-            inner_radius,
-            ranged,
-            sizes,
-            points,
-        ),
-    }
-}
-
-// The record of these codes.
-fn joined(
-    kind: Kind,
-    count: u8,
-    altitude: AltitudeCode,
-    inner_radius: InnerRadiusCode,
-    ranged: Ranged,
-    sizes: Sizes,
-    points: Points,
-) -> Shape
-    ensures { λ r. ⌜ r ≡ shapeJoined kind count altitude «inner_radius» ranged sizes points ⌝ }
-{
-    let latitude = ranged.latitude;
-    let longitude = ranged.longitude;
-    let uncertainty = sizes.uncertainty;
-    let semi_major = sizes.semi_major;
-    let semi_minor = sizes.semi_minor;
-    let orientation = ranged.orientation;
-    let altitude_uncertainty = sizes.altitude_uncertainty;
-    let confidence = ranged.confidence;
-    let offset = ranged.offset;
-    let included = ranged.included;
+    let mut shape = groups::outlined(quantities, ranged, sizes);
     let latitudes = points.latitudes;
     let longitudes = points.longitudes;
-    Shape {
-        kind,
-        latitude,
-        longitude,
-        altitude,
-        uncertainty,
-        semi_major,
-        semi_minor,
-        orientation,
-        altitude_uncertainty,
-        confidence,
-        inner_radius,
-        offset,
-        included,
-        count,
-        latitudes,
-        longitudes,
+    shape.latitudes = latitudes;
+    shape.longitudes = longitudes;
+    ShapeCoded {
+        outcome: Outcome::Done,
+        shape,
     }
 }
 

@@ -31,8 +31,8 @@ mul-longitude c = search needs
 array-copy-out-longitude : tie.Need-array-copy-out-longitude Inv-loop μ-loop
 array-copy-out-longitude c = search needs
 
-point-requires : tie.Need-point-requires Inv-loop μ-loop
-point-requires c κs = tt
+code-point-requires : tie.Need-code-point-requires Inv-loop μ-loop
+code-point-requires c κs = tt
 
 enum-known-latitude-code : tie.Need-enum-known-latitude-code Inv-loop μ-loop
 enum-known-latitude-code c = c .match .keys1
@@ -43,7 +43,7 @@ enum-told c = c .match .keys2
 returns : tie.Need-returns Inv-loop μ-loop
 returns c = record {
   coded = λ e. never e refl;
-  out = λ _ k. (rw (c .enum-told .given .1) at (c .before .before .point .ensures)) (k (c .before .before .before .before .before .before .loop .i));
+  out = λ _ k. (rw (c .enum-told .given .1) at (c .before .before .code-point .ensures)) (k (c .before .before .before .before .before .before .loop .i));
 }
 
 mul-latitude-code : tie.Need-mul-latitude-code Inv-loop μ-loop
@@ -73,7 +73,7 @@ loop-again c =
       l .inv .1,
       length-set (l .points .latitudes) (l .i) (p .0 .0) ∙ l .inv .2,
       length-set (l .points .longitudes) (l .i) (p .0 .1 .0) ∙ l .inv .3,
-      one-more (a .t1) (a .t2) (a .n) (l .points .latitudes) (l .points .longitudes) (l .inv .2) (l .inv .3) (l .i) (p .0 .0) (p .0 .1 .0) (omega arith) (l .inv .4) (rw (p .1) at (c .before .before .before .point .ensures)),
+      one-more (a .t1) (a .t2) (a .n) (l .points .latitudes) (l .points .longitudes) (l .inv .2) (l .inv .3) (l .i) (p .0 .0) (p .0 .1 .0) (omega arith) (l .inv .4) (rw (p .1) at (c .before .before .before .code-point .ensures)),
     )
 
 returns-2 : tie.Need-returns-2 Inv-loop μ-loop
@@ -100,7 +100,7 @@ code-points-spec =
     array-copy-out-latitude
     mul-longitude
     array-copy-out-longitude
-    point-requires
+    code-point-requires
     enum-known-latitude-code
     enum-told
     returns

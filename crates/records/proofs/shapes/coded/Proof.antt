@@ -3,6 +3,7 @@ use native.Mathlib.Omega.{arith}
 use borrow.Author.Tests.{not-true, not-false}
 use borrow.Author.Needs.{needs}
 use Rattle.ground.proofs.AnswerLaws.{shown, refuted}
+use Rattle.groups.proofs.PointLaws.{codes-kept}
 use Rattle.records.proofs.ShapeLaws.{in-range, rest-zero, ranges-kept, points-kept, shape-done, out-of-range, too-large}
 use Rattle.records.proofs.shapes.coded.Statement.{statement}
 use Rattle.records.proofs.shapes.coded.Tie as tie
@@ -76,17 +77,11 @@ returns-5 c =
     let z = shown (c .before .before .before .before .before .before .before .before .before .before .before .before .before .before .before .before .is-zero .result) (c .before .before .before .before .before .before .before .before .before .before .before .before .before .before .before .if1 .left) (rw (c .before .before .before .before .before .before .before .before .before .before .before .before .before .before .before .before .before .used-by .ensures) at (c .before .before .before .before .before .before .before .before .before .before .before .before .before .before .before .before .is-zero .ensures)) in
     let ranged = rw (c .before .before .before .before .before .before .before .before .before .before .ranged .given .1, c .before .before .before .before .before .before .before .before .before .before .before .before .before .before .before .before .before .used-by .ensures) at (c .before .before .before .before .before .before .before .before .before .before .before .before .code-ranges .ensures) in
     let points = c .before .before .before .before .before .before .code-points .ensures .coded (not-false _ (c .before .before .before .before .if3 .left)) in
-    let r = in-range q z (omega (arith, c .before .before .before .before .before .before .before .before .before .before .before .before .before .if2 .left)) (c .before .before .before .before .before .before .before .before .before .before .ranged .given .0 .0) ranged (c .before .before .before .before .before .before .code-points .result) points in
+    let r = in-range q z (omega (arith, c .before .before .before .before .before .before .before .before .before .before .before .before .before .if2 .left)) (c .before .before .before .before .before .before .before .before .before .before .ranged .given .0 .0) ranged (λ i. codes-kept (points .each i)) in
     too-large q (c .refused5 .result) (c .before .before .before .before .before .before .before .before .before .before .before .before .before .before .before .before .before .before .pre) r (c .refused5 .ensures) (rw (c .before .enum-told2 .given .1) at (c .before .before .before .code-sizes .ensures))
 
-altitude-code-requires : tie.Need-altitude-code-requires
-altitude-code-requires c κs = search needs
-
-inner-radius-code-requires : tie.Need-inner-radius-code-requires
-inner-radius-code-requires c κs = search needs
-
-joined-requires : tie.Need-joined-requires
-joined-requires c κs = search needs
+outlined-requires : tie.Need-outlined-requires
+outlined-requires c κs = search needs
 
 returns-6 : tie.Need-returns-6
 returns-6 c =
@@ -94,9 +89,9 @@ returns-6 c =
     let z = shown (c .before .before .before .before .before .before .before .before .before .before .before .before .before .before .before .before .before .before .before .is-zero .result) (c .before .before .before .before .before .before .before .before .before .before .before .before .before .before .before .before .before .before .if1 .left) (rw (c .before .before .before .before .before .before .before .before .before .before .before .before .before .before .before .before .before .before .before .before .used-by .ensures) at (c .before .before .before .before .before .before .before .before .before .before .before .before .before .before .before .before .before .before .before .is-zero .ensures)) in
     let ranged = rw (c .before .before .before .before .before .before .before .before .before .before .before .before .before .ranged .given .1, c .before .before .before .before .before .before .before .before .before .before .before .before .before .before .before .before .before .before .before .before .used-by .ensures) at (c .before .before .before .before .before .before .before .before .before .before .before .before .before .before .before .code-ranges .ensures) in
     let points = c .before .before .before .before .before .before .before .before .before .code-points .ensures .coded (not-false _ (c .before .before .before .before .before .before .before .if3 .left)) in
-    let r = in-range q z (omega (arith, c .before .before .before .before .before .before .before .before .before .before .before .before .before .before .before .before .if2 .left)) (c .before .before .before .before .before .before .before .before .before .before .before .before .before .ranged .given .0 .0) ranged (c .before .before .before .before .before .before .before .before .before .code-points .result) points in
+    let r = in-range q z (omega (arith, c .before .before .before .before .before .before .before .before .before .before .before .before .before .before .before .before .if2 .left)) (c .before .before .before .before .before .before .before .before .before .before .before .before .before .ranged .given .0 .0) ranged (λ i. codes-kept (points .each i)) in
     let sized = rw (c .before .before .before .before .sizes .given .1) at (c .before .before .before .before .before .before .code-sizes .ensures) in
-    shape-done q (c .before .before .before .before .before .before .before .before .before .before .before .before .before .ranged .given .0 .0) (c .before .before .before .before .sizes .given .0 .0) (c .before .before .before .before .before .before .before .before .before .code-points .result) (c .before .before .altitude-code .result) (c .before .inner-radius-code .result) r ranged sized points (c .before .before .altitude-code .ensures) (c .before .inner-radius-code .ensures) (c .before .before .before .before .before .before .before .before .before .before .before .before .before .before .before .before .before .before .before .before .before .pre) (c .joined .result) (c .joined .ensures)
+    shape-done q (c .before .before .before .before .before .before .before .before .before .before .before .before .before .ranged .given .0 .0) (c .before .before .before .before .sizes .given .0 .0) (c .before .before .before .before .before .before .before .before .before .code-points .result) (c .before .before .outlined .result) r ranged sized points (c .before .before .outlined .ensures) (c .before .before .before .before .before .before .before .before .before .before .before .before .before .before .before .before .before .before .before .before .before .pre)
 
 pub coded-spec : {M : Type 1} → statement M
 coded-spec =
@@ -121,7 +116,5 @@ coded-spec =
     enum-told-2
     refused-requires-5
     returns-5
-    altitude-code-requires
-    inner-radius-code-requires
-    joined-requires
+    outlined-requires
     returns-6)

@@ -5,8 +5,8 @@ use mir.Syntax.{w64}
 use mir.Val.{ofZ}
 use Rattle.ground.specs.declared.quantities.Nanodegrees.{Nanodegrees}
 use Rattle.quantities.proofs.TestLaws.{never, degrees-zero}
-use Rattle.groups.proofs.points.point.Statement.{statement}
-use Rattle.groups.proofs.points.point.Tie as tie
+use Rattle.groups.proofs.points.code_point.Statement.{statement}
+use Rattle.groups.proofs.points.code_point.Tie as tie
 
 latitude-code-requires : tie.Need-latitude-code-requires
 latitude-code-requires c κs = search needs
@@ -54,8 +54,8 @@ returns-6 c = record {
   no-longitudes = λ _. (degrees-zero (c .before .before .before .before .before .before .before .args .longitude) (search needs) (c .if3 .left), refl);
 }
 
-pub point-spec : {M : Type 1} → statement M
-point-spec =
+pub code-point-spec : {M : Type 1} → statement M
+code-point-spec =
     tie.close
     (tie.spec
     latitude-code-requires

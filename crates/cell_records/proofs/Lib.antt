@@ -1,0 +1,3 @@
+mod PointLaws
+mod OutlineLaws
+mod IntoLaws

@@ -1,0 +1,103 @@
+-- What is shown of an outline holds of the quantities, which differ in their points alone, and what is shown of the quantities holds of their
+-- outline. Assumes nothing.
+use Prim.Native.Nat.{ℕ, _≤_}
+use mathlib.Core.Path.{_≡_, refl}
+use mathlib.Core.Bool.{Bool, false}
+use mathlib.Core.List.{List}
+use native.Mathlib.Omega.{arith}
+use lib.IntN.{ℤ}
+use Rattle.layout.specs.declared.shapes.Kind.{Kind}
+use Rattle.layout.specs.declared.shapes.Kind.the-variants.{Nothing, Point, Circle, Ellipse, Polygon, AltitudePoint, AltitudeEllipsoid, Arc}
+use Rattle.layout.specs.declared.shapes.Shape.{Shape}
+use Rattle.layout.specs.Layout.{shapeRows}
+use Rattle.layout.specs.Demands.{CountSound}
+use Rattle.unused.specs.declared.Uses.{Uses}
+use Rattle.unused.specs.Kinds.{usesOf}
+use Rattle.unused.specs.Unused.{IdleNumber, RestZero}
+use Rattle.groups.specs.declared.ranges.Ranged.{Ranged}
+use Rattle.groups.specs.declared.sizes.Sizes.{Sizes}
+use Rattle.groups.specs.Outlines.{Outlined}
+use Rattle.groups.specs.Ranges.{RangesKept, RangedCodes}
+use Rattle.groups.specs.Sizes.{SizesCovered, SizeCodes}
+use Rattle.quantity_cells.specs.Shapes.{quantitiesIn, quantityOutlineIn}
+
+module _ (cells : List ℤ) where
+  -- ---- of the quantities
+
+  pub rest-zero-in : {u : Uses} → RestZero u (quantityOutlineIn cells) → RestZero u (quantitiesIn cells)
+  rest-zero-in z = record {
+    latitudes = z .latitudes;
+    longitudes = z .longitudes;
+    altitudes = z .altitudes;
+    confidences = z .confidences;
+    counts = z .counts;
+    numbers = record { uncertainties = z .numbers .uncertainties; semi-majors = z .numbers .semi-majors; semi-minors = z .numbers .semi-minors; orientations = z .numbers .orientations; altitude-uncertainties = z .numbers .altitude-uncertainties; inner-radii = z .numbers .inner-radii; offsets = z .numbers .offsets; includeds = z .numbers .includeds };
+  }
+
+  pub ranged-in : {arc : Bool} {r : Ranged} → RangedCodes arc (quantityOutlineIn cells) r → RangedCodes arc (quantitiesIn cells) r
+  ranged-in z = record {
+    latitudes = z .latitudes;
+    longitudes = z .longitudes;
+    orientations = z .orientations;
+    offsets = z .offsets;
+    includeds = z .includeds;
+    confidences = z .confidences;
+  }
+
+  pub sizes-in : {s : Sizes} → SizeCodes (quantityOutlineIn cells) s → SizeCodes (quantitiesIn cells) s
+  sizes-in z = record {
+    uncertainties = z .uncertainties;
+    semi-majors = z .semi-majors;
+    semi-minors = z .semi-minors;
+    altitude-uncertainties = z .altitude-uncertainties;
+  }
+
+  pub outlined-in : {r : Ranged} {s : Sizes} {x : Shape} → Outlined (quantityOutlineIn cells) r s x → Outlined (quantitiesIn cells) r s x
+  outlined-in z = record {
+    altitude = z .altitude;
+    inner-radius = z .inner-radius;
+    altitudes = z .altitudes;
+    inner-radii = z .inner-radii;
+    joined = z .joined;
+  }
+
+  -- ---- of the outline
+
+  pub rest-zero-out : {u : Uses} → RestZero u (quantitiesIn cells) → RestZero u (quantityOutlineIn cells)
+  rest-zero-out z = record {
+    latitudes = z .latitudes;
+    longitudes = z .longitudes;
+    altitudes = z .altitudes;
+    confidences = z .confidences;
+    counts = z .counts;
+    numbers = record { uncertainties = z .numbers .uncertainties; semi-majors = z .numbers .semi-majors; semi-minors = z .numbers .semi-minors; orientations = z .numbers .orientations; altitude-uncertainties = z .numbers .altitude-uncertainties; inner-radii = z .numbers .inner-radii; offsets = z .numbers .offsets; includeds = z .numbers .includeds };
+  }
+
+  pub ranges-out : {arc : Bool} → RangesKept arc (quantitiesIn cells) → RangesKept arc (quantityOutlineIn cells)
+  ranges-out z = record {
+    latitudes = z .latitudes;
+    longitudes = z .longitudes;
+    orientations = z .orientations;
+    offsets = z .offsets;
+    includeds = z .includeds;
+    confidences = z .confidences;
+  }
+
+  pub sizes-out : SizesCovered (quantitiesIn cells) → SizesCovered (quantityOutlineIn cells)
+  sizes-out z = record {
+    uncertainties = z .uncertainties;
+    semi-majors = z .semi-majors;
+    semi-minors = z .semi-minors;
+    altitude-uncertainties = z .altitude-uncertainties;
+  }
+
+-- a count that is formed, and zero where it isn't used, is one of fifteen points at most
+pub few-points : (k : Kind) (n : ℕ) → CountSound (shapeRows k n) (λ f. n) → IdleNumber (usesOf k .count) n → n ≤ 15
+few-points Nothing n c h = let z = h refl in omega arith
+few-points Point n c h = let z = h refl in omega arith
+few-points Circle n c h = let z = h refl in omega arith
+few-points Ellipse n c h = let z = h refl in omega arith
+few-points Polygon n c h = c .most (omega arith)
+few-points AltitudePoint n c h = let z = h refl in omega arith
+few-points AltitudeEllipsoid n c h = let z = h refl in omega arith
+few-points Arc n c h = let z = h refl in omega arith

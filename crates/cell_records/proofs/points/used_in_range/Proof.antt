@@ -1,0 +1,92 @@
+-- The points passed have their codes; one that has none is out of range.
+use Prim.Native.Nat.{ℕ, _-_, _≤_}
+use mathlib.Core.Path.{_≡_}
+use native.Mathlib.Omega.{arith}
+use denote.Ref.{now}
+use borrow.Author.Needs.{needs}
+use Rattle.cells.proofs.NumberLaws.{cell-read}
+use Rattle.cell_records.specs.Records.{UsedCodes}
+use Rattle.cell_records.proofs.PointLaws.{coded-at, none-coded, one-coded}
+use Rattle.cell_records.proofs.points.used_in_range.Statement.{statement}
+use Rattle.cell_records.proofs.points.used_in_range.Tie as tie
+
+abbrev Inv-loop : tie.InvT-loop
+Inv-loop given end i₀ i = (i ≤ end) × UsedCodes given i
+
+abbrev μ-loop : tie.MeasureT-loop
+μ-loop given end i₀ i = end - i
+
+loop-holds : tie.Need-loop-holds Inv-loop μ-loop
+loop-holds c = (omega arith, none-coded _)
+
+mul-t7 : tie.Need-mul-t7 Inv-loop μ-loop
+mul-t7 c = search needs
+
+add-t8 : tie.Need-add-t8 Inv-loop μ-loop
+add-t8 c = search needs
+
+mul-t9 : tie.Need-mul-t9 Inv-loop μ-loop
+mul-t9 c = search needs
+
+shared-slice-copy-out-t11 : tie.Need-shared-slice-copy-out-t11 Inv-loop μ-loop
+shared-slice-copy-out-t11 c = search needs
+
+mul-t7-2 : tie.Need-mul-t7-2 Inv-loop μ-loop
+mul-t7-2 c = search needs
+
+add-t8-2 : tie.Need-add-t8-2 Inv-loop μ-loop
+add-t8-2 c = search needs
+
+mul-t9-2 : tie.Need-mul-t9-2 Inv-loop μ-loop
+mul-t9-2 c = search needs
+
+shared-slice-copy-out-t11-2 : tie.Need-shared-slice-copy-out-t11-2 Inv-loop μ-loop
+shared-slice-copy-out-t11-2 c = search needs
+
+code-point-requires : tie.Need-code-point-requires Inv-loop μ-loop
+code-point-requires c κs = search needs
+
+enum-told : tie.Need-enum-told Inv-loop μ-loop
+enum-told c = search needs
+
+returns : tie.Need-returns Inv-loop μ-loop
+returns c = λ h. (rw (c .enum-told .given .1) at (coded-at (now (c .before .before .before .before .before .before .before .args .given)) (c .before .before .before .before .before .before .loop .i) (omega arith) (c .before .before .code-point .result) (rw (cell-read (c .before .before .before .before .t11 .given), cell-read (c .before .before .before .t112 .given)) at (c .before .before .code-point .ensures)))) (h (c .before .before .before .before .before .before .loop .i) (omega arith))
+
+enum-told-2 : tie.Need-enum-told-2 Inv-loop μ-loop
+enum-told-2 c = search needs
+
+add-i : tie.Need-add-i Inv-loop μ-loop
+add-i c = search needs
+
+loop-less : tie.Need-loop-less Inv-loop μ-loop
+loop-less c = search needs
+
+loop-again : tie.Need-loop-again Inv-loop μ-loop
+loop-again c = (omega arith, one-coded (now (c .before .before .before .before .before .before .before .args .given)) (c .before .before .before .before .before .before .loop .i) (omega arith) (c .before .before .before .before .before .before .loop .inv .1) (rw (c .enum-told2 .given .1) at (coded-at (now (c .before .before .before .before .before .before .before .args .given)) (c .before .before .before .before .before .before .loop .i) (omega arith) (c .before .before .code-point .result) (rw (cell-read (c .before .before .before .before .t11 .given), cell-read (c .before .before .before .t112 .given)) at (c .before .before .code-point .ensures)))))
+
+returns-2 : tie.Need-returns-2 Inv-loop μ-loop
+returns-2 c = let e : c .before .loop .i ≡ c .before .before .args .end = omega arith in rw e at (c .before .loop .inv .1)
+
+pub used-in-range-spec : {M : Type 1} → statement M
+used-in-range-spec =
+    tie.close
+    (tie.spec
+    Inv-loop
+    μ-loop
+    loop-holds
+    mul-t7
+    add-t8
+    mul-t9
+    shared-slice-copy-out-t11
+    mul-t7-2
+    add-t8-2
+    mul-t9-2
+    shared-slice-copy-out-t11-2
+    code-point-requires
+    enum-told
+    returns
+    enum-told-2
+    add-i
+    loop-less
+    loop-again
+    returns-2)
