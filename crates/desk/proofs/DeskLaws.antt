@@ -32,10 +32,10 @@ use Rattle.quantity_cells.specs.Velocities.{velocityQuantitiesIn, VelocityArriv
 use Rattle.velocities.proofs.DemandLaws.{no-count}
 use Rattle.alike.proofs.VelocityLaws.{held-velocity-answer, held-velocity-record}
 use Rattle.cells.proofs.PutLaws.{puts-by}
-use Rattle.cell_reading.specs.Reading.{ReadsInto}
+use Rattle.cell_reading.specs.Reading.{ReadsInto, ReadsMotionInto}
 use Rattle.cell_reports.specs.Reports.{ReportsInto}
 use Rattle.cell_records.specs.Records.{CodeCellsAnswer, CodesInto}
-use Rattle.desk.specs.Promises.{ReadsShapeInto, WritesTold, ReportsShapeInto, ReportsVelocityIn, CodesShapeInto, CodesVelocityIn, KindAnswer}
+use Rattle.desk.specs.Promises.{ReadsShapeInto, ReadsVelocityInto, WritesTold, ReportsShapeInto, ReportsVelocityIn, CodesShapeInto, CodesVelocityIn, KindAnswer}
 
 -- ---- no longer than the room
 
@@ -68,6 +68,9 @@ chosen-within w p = chosen-short p
 
 pub read-told : {s before after : List ℕ} {left : Outcome} {n : ℤ} → ReadsInto s before after left → n ≡ answerOf left 61 → ReadsShapeInto s before after n
 read-told r e = record { read = r .read; promise = r .promise; put = puts-by {outcome = r .read .outcome} (r .roomed) e (r .array) }
+
+pub motion-told : {s before after : List ℕ} {left : Outcome} {n : ℤ} → ReadsMotionInto s before after left → n ≡ answerOf left 7 → ReadsVelocityInto s before after n
+motion-told r e = record { read = r .read; promise = r .promise; put = puts-by {outcome = r .read .outcome} (r .roomed) e (r .array) }
 
 pub report-told : {cells : List ℕ} {before after : List ℤ} {left : Outcome} {n : ℤ} → ReportsInto cells before after left → n ≡ answerOf left 44 → ReportsShapeInto cells before after n
 report-told r e = record { reported = r .reported; promise = r .promise; put = puts-by {outcome = r .reported .outcome} (r .roomed) e (r .array) }

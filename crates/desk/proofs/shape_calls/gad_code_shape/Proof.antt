@@ -15,7 +15,7 @@ answer-requires : tie.Need-answer-requires
 answer-requires c κs = search needs
 
 returns : tie.Need-returns
-returns c = rw (toZ-ofZ {w = w64} {z = c@answer .result .0} (search needs)) (too-short (omega arith) (c@answer .ensures) refl)
+returns c = rw (toZ-ofZ {w = w64} {z = c .before .answer .result .0} (search needs)) (too-short (omega arith) (c .before .answer .ensures) refl)
 
 code-requires : tie.Need-code-requires
 code-requires c κs = search needs
@@ -28,8 +28,8 @@ same-length c = search needs
 
 returns-2 : tie.Need-returns-2
 returns-2 c =
-    let long : 44 ≤ length (c@start .args .quantities .now) = omega arith in
-    rw (toZ-ofZ {w = w64} {z = c@answer2 .result .0} (search needs)) (long-enough long (code-told (c@code .ensures) (c@answer2 .ensures)))
+    let long : 44 ≤ length (c .before .before .before .before .before .before .before .before .args .quantities .now) = omega arith in
+    rw (toZ-ofZ {w = w64} {z = c .before .answer2 .result .0} (search needs)) (long-enough long (code-told (c .before .before .before .before .code .ensures) (c .before .answer2 .ensures)))
 
 pub gad-code-shape-spec : {M : Type 1} → statement M
 gad-code-shape-spec =

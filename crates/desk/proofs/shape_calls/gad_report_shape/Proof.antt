@@ -15,7 +15,7 @@ answer-requires : tie.Need-answer-requires
 answer-requires c κs = search needs
 
 returns : tie.Need-returns
-returns c = rw (toZ-ofZ {w = w64} {z = c@answer .result .0} (search needs)) (too-short (omega arith) (c@answer .ensures) refl)
+returns c = rw (toZ-ofZ {w = w64} {z = c .before .answer .result .0} (search needs)) (too-short (omega arith) (c .before .answer .ensures) refl)
 
 report-requires : tie.Need-report-requires
 report-requires c κs = search needs
@@ -28,8 +28,8 @@ same-length c = search needs
 
 returns-2 : tie.Need-returns-2
 returns-2 c =
-    let long : 61 ≤ length (c@start .args .codes .now) = omega arith in
-    rw (toZ-ofZ {w = w64} {z = c@answer2 .result .0} (search needs)) (long-enough long (report-told (c@report .ensures) (c@answer2 .ensures)))
+    let long : 61 ≤ length (c .before .before .before .before .before .before .before .args .codes .now) = omega arith in
+    rw (toZ-ofZ {w = w64} {z = c .before .answer2 .result .0} (search needs)) (long-enough long (report-told (c .before .before .before .report .ensures) (c .before .answer2 .ensures)))
 
 pub gad-report-shape-spec : {M : Type 1} → statement M
 gad-report-shape-spec =
