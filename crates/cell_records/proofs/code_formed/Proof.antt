@@ -1,5 +1,5 @@
 -- Each test of the outline is one of the quantities; the cells before the points, the points and zeros are those of the record.
-use mathlib.Core.Path.{_≡_, refl, ap, _∙_}
+use mathlib.Core.Path.{ap, _∙_}
 use mathlib.Core.List.{List}
 use Prim.Native.Nat.{ℕ, _+_, _*_, _-_, _≤_}
 use native.Mathlib.Omega.{arith}
@@ -18,7 +18,7 @@ use Rattle.groups.specs.Ranges.{RangedCodes}
 use Rattle.records.specs.Records.{pointed}
 use Rattle.records.proofs.ShapeLaws.{in-range, rest-zero, ranges-kept, points-kept, shape-done}
 use Rattle.code_cells.specs.Shapes.{pointCells}
-use Rattle.quantity_cells.specs.Shapes.{quantitiesIn, quantityOutlineIn}
+use Rattle.quantity_cells.specs.Shapes.{quantitiesIn}
 use Rattle.cell_records.specs.Records.{UsedCodes, CodedPoints}
 use Rattle.cell_records.proofs.PointLaws.{pointsOf, points-codes, codes-used}
 use Rattle.cell_records.proofs.OutlineLaws.{rest-zero-in, rest-zero-out, ranged-in, ranges-out, sizes-in, sizes-out, outlined-in, few-points}
