@@ -71,11 +71,12 @@ module _ (cells : List ℤ) where
             array = refl;
           }
 
-          pub put-into : {after : List ℕ} (n : ℕ) → Ended (x .latitudes) (x .longitudes) n → 61 ≤ length before
-              → after ≡ sets (sets (sets before 0 (singleCells x)) 16 (pointCells (x .latitudes) (x .longitudes) n)) (16 + 3 * n) (replicate (45 - 3 * n) 0) → CodesInto cells before after Done
-          put-into n ended h e = record {
+          -- the points are n, and what comes after the m-th is cleared
+          pub put-into : {after : List ℕ} (n m : ℕ) → m ≡ n → Ended (x .latitudes) (x .longitudes) n → 61 ≤ length before
+              → after ≡ sets (sets (sets before 0 (singleCells x)) 16 (pointCells (x .latitudes) (x .longitudes) n)) (16 + 3 * m) (replicate (45 - 3 * m) 0) → CodesInto cells before after Done
+          put-into n m s ended h e = record {
             coded = record { outcome = Done; shape = x };
             promise = record { answer = arrived (p .answer); shape = p .shape };
             roomed = has-room 61 (length before) h;
-            array = e ∙ shape-put x ended before h;
+            array = (rw s at e) ∙ shape-put x ended before h;
           }

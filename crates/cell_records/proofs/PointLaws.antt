@@ -2,12 +2,15 @@
 use Prim.Native.Nat.{ℕ, zero, suc, _+_, _*_, _-_, _≤_, _<_, _/_, _%_}
 use mathlib.Core.Path.{_≡_, refl, sym, ap, _∙_}
 use mathlib.Core.Bool.{Bool, true, false}
-use mathlib.Core.List.{List, _++_}
+use mathlib.Core.List.{List}
 use native.Mathlib.Omega.{arith}
 use lib.Dec.{ltb, eqb}
 use lib.IntN.{ℤ, pos}
+use lib.Signed.{mag}
 use lib.ListN.{length, getD, set, replicate, length-set, List·getD-eq-default}
 use lib.Seq.{sets, getD-set-same, getD-set-other}
+use mir.Syntax.{w64}
+use mir.Val.{toZ, ofZ}
 use borrow.Author.Count.{below-more}
 use borrow.Author.Tests.{ltb-true, ltb-false, lt-ltb, le-ltb, eqb-true, eqb-false}
 use Rattle.ground.specs.Answers.{Decides, done}
@@ -23,9 +26,10 @@ use Rattle.quantities.proofs.TestLaws.{never}
 use Rattle.quantities.proofs.ZeroLaws.{not-refused}
 use Rattle.groups.specs.declared.points.Points.{Points}
 use Rattle.groups.specs.declared.points.PointCoded.{PointCoded}
-use Rattle.groups.specs.Points.{PointKept, PointCodes, CodesPoint, PointsKept, PointsCodes}
+use Rattle.groups.specs.Points.{PointCodes, CodesPoint, PointsKept, PointsCodes}
 use Rattle.cells.specs.Quantities.{quantityIn}
-use Rattle.code_cells.specs.Shapes.{pointCell, pointCells, Ended}
+use Rattle.cells.proofs.NumberLaws.{cell-read}
+use Rattle.code_cells.specs.Shapes.{pointCell, pointCells}
 use Rattle.code_cells.proofs.PointLaws.{more}
 use Rattle.quantity_cells.specs.Shapes.{coordinateIn, quantitiesIn}
 use Rattle.cell_records.specs.Records.{UsedKept, NoneFrom, UsedCodes, PointsInRange, PutsPoints}
@@ -37,9 +41,11 @@ module _ (cells : List ℤ) where
   longitude-at : (i : ℕ) → i < 15 → getD (quantitiesIn cells .longitudes) i zeroDegrees ≡ coordinateIn cells 15 i
   longitude-at i h = at-upto (coordinateIn cells 15) 15 i zeroDegrees h
 
-  pub coded-at : (i : ℕ) → i < 15 → (r : PointCoded) → CodesPoint true (coordinateIn cells 14 i) (coordinateIn cells 15 i) r
+  -- the codes of the two cells that were read
+  pub coded-at : (i : ℕ) → i < 15 → mag (quantityIn cells (14 + 2 * i)) < 9223372036854775808 → mag (quantityIn cells (15 + 2 * i)) < 9223372036854775808
+      → (r : PointCoded) → CodesPoint true (record { 0 = toZ w64 (ofZ w64 (quantityIn cells (14 + 2 * i))) }) (record { 0 = toZ w64 (ofZ w64 (quantityIn cells (15 + 2 * i))) }) r
       → CodesPoint true (getD (quantitiesIn cells .latitudes) i zeroDegrees) (getD (quantitiesIn cells .longitudes) i zeroDegrees) r
-  coded-at i h r p = rw (latitude-at i h, longitude-at i h) p
+  coded-at i h a b r p = rw (latitude-at i h, longitude-at i h) (rw (cell-read {z = quantityIn cells (14 + 2 * i)} a, cell-read {z = quantityIn cells (15 + 2 * i)} b) at p)
 
   -- ---- all that are used are in range, and no number comes after them
 

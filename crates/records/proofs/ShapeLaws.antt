@@ -4,7 +4,6 @@ use mathlib.Core.Path.{_≡_, refl, sym, ap, subst}
 use mathlib.Core.Bool.{Bool}
 use mathlib.Core.List.{List}
 use native.Mathlib.Omega.{arith}
-use lib.ListN.{getD}
 use Rattle.ground.specs.Answers.{numberOf, outcomeNumber, unmet, met, done, refused}
 use Rattle.ground.specs.declared.refusals.Outcome.{Outcome}
 use Rattle.ground.specs.declared.refusals.Outcome.the-variants.{Done}
@@ -19,7 +18,7 @@ use Rattle.layout.specs.declared.shapes.Shape.{Shape}
 use Rattle.layout.specs.Layout.{Field, Row}
 use Rattle.layout.specs.Layout as layout
 use Rattle.layout.specs.Demands.{Used}
-use Rattle.layout.specs.Shapes.{blankShape, zeroLatitude, zeroLongitude}
+use Rattle.layout.specs.Shapes.{blankShape}
 use Rattle.layout.proofs.KindLaws.{pointsOf}
 use Rattle.trips.proofs.WidthLaws.{shapeWidest, shape-width}
 use Rattle.quantities.specs.declared.shapes.ShapeQuantities.{ShapeQuantities}
@@ -27,7 +26,7 @@ use Rattle.quantities.specs.declared.shapes.ShapeCoded.{ShapeCoded}
 use Rattle.quantities.specs.Places.{Place, fieldOf, rowOf, Quantities, Unused, zeroCode, zeroQuantity}
 use Rattle.quantities.specs.Places as place
 use Rattle.quantities.specs.Promises.{InRange, Covered, CodeAnswer, Given}
-use Rattle.quantities.specs.Shapes.{codeAt, quantityAt, quantityRows, zeroDegrees, RecordOf, CodesShape}
+use Rattle.quantities.specs.Shapes.{codeAt, quantityAt, quantityRows, RecordOf, CodesShape}
 use Rattle.quantities.proofs.UnusedLaws.{points-counted}
 use Rattle.groups.specs.declared.points.Points.{Points}
 use Rattle.groups.specs.declared.ranges.Ranged.{Ranged}

@@ -1,5 +1,5 @@
 -- Each test of the outline is one of the quantities; the cells before the points, the points and zeros are those of the record.
-use mathlib.Core.Path.{_≡_, refl, ap, _∙_}
+use mathlib.Core.Path.{ap, _∙_}
 use mathlib.Core.List.{List}
 use Prim.Native.Nat.{ℕ, _+_, _*_, _-_, _≤_}
 use native.Mathlib.Omega.{arith}
@@ -10,6 +10,7 @@ use borrow.Author.Needs.{needs}
 use borrow.Author.Tests.{not-true, not-false}
 use Rattle.ground.specs.declared.refusals.Outcome.the-variants.{Done}
 use Rattle.ground.proofs.AnswerLaws.{shown, refuted}
+use Rattle.quantities.specs.declared.shapes.ShapeQuantities.{ShapeQuantities}
 use Rattle.quantities.specs.Promises.{InRange}
 use Rattle.quantities.specs.Shapes.{quantityAt, quantityRows, CodesShape}
 use Rattle.unused.specs.Kinds.{usesOf}
@@ -18,7 +19,7 @@ use Rattle.groups.specs.Ranges.{RangedCodes}
 use Rattle.records.specs.Records.{pointed}
 use Rattle.records.proofs.ShapeLaws.{in-range, rest-zero, ranges-kept, points-kept, shape-done}
 use Rattle.code_cells.specs.Shapes.{pointCells}
-use Rattle.quantity_cells.specs.Shapes.{quantitiesIn, quantityOutlineIn}
+use Rattle.quantity_cells.specs.Shapes.{quantitiesIn}
 use Rattle.cell_records.specs.Records.{UsedCodes, CodedPoints}
 use Rattle.cell_records.proofs.PointLaws.{pointsOf, points-codes, codes-used}
 use Rattle.cell_records.proofs.OutlineLaws.{rest-zero-in, rest-zero-out, ranged-in, ranges-out, sizes-in, sizes-out, outlined-in, few-points}
@@ -113,11 +114,12 @@ same-length c = search needs
 returns-7 : tie.Need-returns-7
 returns-7 c =
     let n = quantitiesIn (now (c .before .before .before .before .before .before .before .before .before .before .before .before .before .before .before .before .before .before .before .before .before .before .before .before .before .before .before .before .before .before .args .given)) .count in
+    let m = c .before .before .before .before .before .before .before .before .before .before .before .before .before .before .before .before .before .before .before .before .before .before .before .before .before .before .before .before .before .before .args .outline .count in
     let put = rw (c .before .before .before .before .before .before .before .before .before .before .before .before .before .before .before .before .before .before .before .before .before .before .before .before .before .before .before .before .before .before .pre .1 .0) at (c .before .before .before .before .before .before .put .ensures) in
     let u = put .codes in
-    put-into (now (c .before .before .before .before .before .before .before .before .before .before .before .before .before .before .before .before .before .before .before .before .before .before .before .before .before .before .before .before .before .before .args .given)) (c .before .before .before .before .before .before .before .before .before .before .before .before .before .before .before .before .before .before .before .before .before .before .before .before .before .before .before .before .before .before .pre .1 .1 .0) (c .before .before .before .before .before .before .before .before .before .before .before .before .before .before .before .before .before .before .before .before .before .before .before .before .before .before .before .before .before .before .pre .1 .1 .1) (pointed (c .before .before .before .before .before .before .before .before .before .before .before .before .before .outlined .result) (pointsOf u)) (coded (c .before .before .before .before .before .before .before .before .before .before .before .before .before) u) n (u .ended) (omega arith)
-    ((rw (c .before .before .before .before .before .before .before .before .before .before .before .before .before .before .before .before .before .before .before .before .before .before .before .before .before .before .before .before .before .before .pre .1 .0) at (c .before .before .clear-from .ensures))
-    ∙ ap (λ (l : List ℕ). sets l (16 + 3 * n) (replicate (45 - 3 * n) 0)) (put .put ∙ ap (λ (l : List ℕ). sets l 16 (pointCells (u .latitudes) (u .longitudes) n)) (c .before .before .before .before .before .before .before .before .before .before .put-singles .ensures)))
+    put-into (now (c .before .before .before .before .before .before .before .before .before .before .before .before .before .before .before .before .before .before .before .before .before .before .before .before .before .before .before .before .before .before .args .given)) (c .before .before .before .before .before .before .before .before .before .before .before .before .before .before .before .before .before .before .before .before .before .before .before .before .before .before .before .before .before .before .pre .1 .1 .0) (c .before .before .before .before .before .before .before .before .before .before .before .before .before .before .before .before .before .before .before .before .before .before .before .before .before .before .before .before .before .before .pre .1 .1 .1) (pointed (c .before .before .before .before .before .before .before .before .before .before .before .before .before .outlined .result) (pointsOf u)) (coded (c .before .before .before .before .before .before .before .before .before .before .before .before .before) u) n m (ap (λ (o : ShapeQuantities). o .count) (c .before .before .before .before .before .before .before .before .before .before .before .before .before .before .before .before .before .before .before .before .before .before .before .before .before .before .before .before .before .before .pre .1 .0)) (u .ended) (omega arith)
+    (c .before .before .clear-from .ensures
+    ∙ ap (λ (l : List ℕ). sets l (16 + 3 * m) (replicate (45 - 3 * m) 0)) (put .put ∙ ap (λ (l : List ℕ). sets l 16 (pointCells (u .latitudes) (u .longitudes) n)) (c .before .before .before .before .before .before .before .before .before .before .put-singles .ensures)))
 
 pub code-formed-spec : {M : Type 1} → statement M
 code-formed-spec =

@@ -1,12 +1,11 @@
 -- After i turns the codes of i points are put; each point has its codes, since it is in range.
-use Prim.Native.Nat.{ℕ, _-_, _≤_}
+use Prim.Native.Nat.{_-_, _≤_}
 use mathlib.Core.Path.{_≡_, refl, ap, _∙_}
 use mathlib.Core.Logic.{⊎-elim}
 use native.Mathlib.Omega.{arith}
 use lib.ListN.{length}
 use denote.Ref.{now}
 use borrow.Author.Needs.{needs}
-use Rattle.cells.proofs.NumberLaws.{cell-read}
 use Rattle.cell_records.specs.Records.{PutsPoints}
 use Rattle.cell_records.proofs.PointLaws.{coded-at, none-coded, one-put}
 use Rattle.cell_records.proofs.points.put.Statement.{statement}
@@ -67,7 +66,7 @@ loop-again : tie.Need-loop-again Inv-loop μ-loop
 loop-again c =
     let cells = now (c .before .before .before .before .before .before .before .args .given) in
     let l = c .before .before .before .before .before .loop in
-    let point = coded-at cells (l .i) (omega arith) (c .before .code-point .result) (rw (cell-read (c .before .before .before .t15 .given), cell-read (c .before .before .t152 .given)) at (c .before .code-point .ensures)) in
+    let point = coded-at cells (l .i) (omega arith) (c .before .before .before .t15 .given) (c .before .before .t152 .given) (c .before .code-point .result) (c .before .code-point .ensures) in
     ⊎-elim
     (λ w. (omega arith, rw (w .7 ∙ w .4 .ensures) (one-put cells (l .i) (omega arith) (l .inv .1) (rw (w .1 .given .1) at point)), ap length (w .7) ∙ w .4 .kept .0 ∙ l .inv .2))
     (λ w. absurd ((rw (w .1 .given .1) at point) (c .before .before .before .before .before .before .before .pre .1 .1 .1 (l .i) (omega arith))))

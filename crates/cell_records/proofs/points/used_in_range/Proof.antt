@@ -1,10 +1,9 @@
 -- The points passed have their codes; one that has none is out of range.
-use Prim.Native.Nat.{ℕ, _-_, _≤_}
+use Prim.Native.Nat.{_-_, _≤_}
 use mathlib.Core.Path.{_≡_}
 use native.Mathlib.Omega.{arith}
 use denote.Ref.{now}
 use borrow.Author.Needs.{needs}
-use Rattle.cells.proofs.NumberLaws.{cell-read}
 use Rattle.cell_records.specs.Records.{UsedCodes}
 use Rattle.cell_records.proofs.PointLaws.{coded-at, none-coded, one-coded}
 use Rattle.cell_records.proofs.points.used_in_range.Statement.{statement}
@@ -50,7 +49,7 @@ enum-told : tie.Need-enum-told Inv-loop μ-loop
 enum-told c = search needs
 
 returns : tie.Need-returns Inv-loop μ-loop
-returns c = λ h. (rw (c .enum-told .given .1) at (coded-at (now (c .before .before .before .before .before .before .before .args .given)) (c .before .before .before .before .before .before .loop .i) (omega arith) (c .before .before .code-point .result) (rw (cell-read (c .before .before .before .before .t11 .given), cell-read (c .before .before .before .t112 .given)) at (c .before .before .code-point .ensures)))) (h (c .before .before .before .before .before .before .loop .i) (omega arith))
+returns c = λ h. (rw (c .enum-told .given .1) at (coded-at (now (c .before .before .before .before .before .before .before .args .given)) (c .before .before .before .before .before .before .loop .i) (omega arith) (c .before .before .before .before .t11 .given) (c .before .before .before .t112 .given) (c .before .before .code-point .result) (c .before .before .code-point .ensures))) (h (c .before .before .before .before .before .before .loop .i) (omega arith))
 
 enum-told-2 : tie.Need-enum-told-2 Inv-loop μ-loop
 enum-told-2 c = search needs
@@ -62,7 +61,7 @@ loop-less : tie.Need-loop-less Inv-loop μ-loop
 loop-less c = search needs
 
 loop-again : tie.Need-loop-again Inv-loop μ-loop
-loop-again c = (omega arith, one-coded (now (c .before .before .before .before .before .before .before .args .given)) (c .before .before .before .before .before .before .loop .i) (omega arith) (c .before .before .before .before .before .before .loop .inv .1) (rw (c .enum-told2 .given .1) at (coded-at (now (c .before .before .before .before .before .before .before .args .given)) (c .before .before .before .before .before .before .loop .i) (omega arith) (c .before .before .code-point .result) (rw (cell-read (c .before .before .before .before .t11 .given), cell-read (c .before .before .before .t112 .given)) at (c .before .before .code-point .ensures)))))
+loop-again c = (omega arith, one-coded (now (c .before .before .before .before .before .before .before .args .given)) (c .before .before .before .before .before .before .loop .i) (omega arith) (c .before .before .before .before .before .before .loop .inv .1) (rw (c .enum-told2 .given .1) at (coded-at (now (c .before .before .before .before .before .before .before .args .given)) (c .before .before .before .before .before .before .loop .i) (omega arith) (c .before .before .before .before .t11 .given) (c .before .before .before .t112 .given) (c .before .before .code-point .result) (c .before .before .code-point .ensures))))
 
 returns-2 : tie.Need-returns-2 Inv-loop μ-loop
 returns-2 c = let e : c .before .loop .i ≡ c .before .before .args .end = omega arith in rw e at (c .before .loop .inv .1)
