@@ -66,12 +66,15 @@ pub fn digits_from(s: &[u8], from: usize) -> Digits
     Digits { size, end: i }
 }
 
-// One digit more after a number, as far as 64 bits can hold it.
+// One digit more after a number, as far as 64 bits can hold it. Most numbers are far from that, and take one test.
 fn grown(size: u64, digit: u8) -> u64
     requires { ⌜ digit < 10 ⌝ }
     ensures { λ r. ⌜ r ≡ min (10 * size + digit) 18446744073709551615 ⌝ }
 {
     let d = digit as u64;
+    if size < 1844674407370955161 {
+        return size * 10 + d;
+    }
     if 1844674407370955161 < size {
         return 18446744073709551615;
     }
