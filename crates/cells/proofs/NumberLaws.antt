@@ -154,17 +154,6 @@ too-low : (z : ℤ) → ltZ z (negsuc 2147483647) ≡ true → 2147483648 ≤ ma
 too-low (pos n) e = absurd (subst T (sym e) tt)
 too-low (negsuc n) e = omega (arith, ltb-true 2147483647 n e)
 
-too-high : (z : ℤ) → ltZ (pos 2147483647) z ≡ true → 2147483648 ≤ mag z
-too-high (pos n) e = omega (arith, ltb-true 2147483647 n e)
-too-high (negsuc n) e = absurd (subst T (sym e) tt)
-
-between : (z : ℤ) → ltZ z (negsuc 2147483647) ≡ false → ltZ (pos 2147483647) z ≡ false → mag z < 2147483648
-between (pos n) e h = omega (arith, ltb-false 2147483647 n h)
-between (negsuc n) e h = omega (arith, ltb-false 2147483647 n e)
-
-none : (z : ℤ) → 2147483648 ≤ mag z → pos 0 ≡ signedOf z
-none z h = simp (le-ltb (mag z) 2147483648 h)
-
 module _ (z : ℤ) (f : SFits w64 z) where
   pub is-least : ltZ missing (toZ w64 (ofZ w64 z)) ≡ false → z ≡ missing
   is-least e = least z f (rw (toZ-ofZ f) at e)
@@ -190,16 +179,14 @@ module _ (z : ℤ) (f : SFits w64 z) where
   pub signed-beyond : ltZ (toZ w64 (ofZ w64 z)) (pos 2147483648) ≡ false → Signed32 z → ⊥
   signed-beyond e h = omega (arith, signed-large z (rw (toZ-ofZ f) at e))
 
-  pub signed-low : ltZ (toZ w64 (ofZ w64 z)) (negsuc 2147483647) ≡ true → pos 0 ≡ signedOf z
-  signed-low e = none z (too-low z (rw (toZ-ofZ f) at e))
+  pub signed-none : (Signed32 z → ⊥) → pos 0 ≡ signedOf z
+  signed-none n = by (ltb (mag z) 2147483648) (ltb-decides (mag z) 2147483648)
+    where
+      by : (t : Bool) → Decides t (mag z < 2147483648) → pos 0 ≡ signedOf z
+      by true d = absurd (n d)
+      by false d = simp (le-ltb (mag z) 2147483648 (omega arith))
 
-  pub signed-high : ltZ (pos 2147483647) (toZ w64 (ofZ w64 z)) ≡ true → pos 0 ≡ signedOf z
-  signed-high e = none z (too-high z (rw (toZ-ofZ f) at e))
-
-  module _ (e : ltZ (toZ w64 (ofZ w64 z)) (negsuc 2147483647) ≡ false) (h : ltZ (pos 2147483647) (toZ w64 (ofZ w64 z)) ≡ false) where
-    small : mag z < 2147483648
-    small = between z (rw (toZ-ofZ f) at e) (rw (toZ-ofZ f) at h)
-
+  module _ (small : Signed32 z) where
     pub signed-fits : SFits w32 (toZ w64 (ofZ w64 z))
     signed-fits = rw (toZ-ofZ f) (record { sfits = small })
 

@@ -69,13 +69,10 @@ pub fn is_signed(cell: Whole) -> bool
 pub fn signed(cell: Whole) -> Narrow
     ensures { λ r. ⌜ r .0 ≡ signedOf (cell .0) ⌝ }
 {
+    if !is_signed(cell) {
+        return Narrow(0);
+    }
     let x = cell.0;
-    if x < -2147483648 {
-        return Narrow(0);
-    }
-    if 2147483647 < x {
-        return Narrow(0);
-    }
     Narrow(x as i32)
 }
 
