@@ -3,10 +3,10 @@ use mathlib.Core.Path.{_≡_, refl, sym, ap, _∙_, subst}
 use mathlib.Core.Bool.{Bool, true, false}
 use Prim.Native.Nat.{ℕ, suc, _-_, _≤_, _<_}
 use native.Mathlib.Omega.{arith}
-use lib.Dec.{T, eqb, leb, ltb}
+use lib.Dec.{T, ltb}
 use lib.IntN.{ℤ, pos, negsuc, natAbs}
 use lib.Signed.{mag, ltZ, nonNeg}
-use borrow.Author.Tests.{eqb-true, eqb-false, leb-true, leb-false, ltb-true, ltb-false, lt-ltb, le-ltb}
+use borrow.Author.Tests.{ltb-true, ltb-false, lt-ltb, le-ltb}
 use mir.Syntax.{w32, w64}
 use mir.Val.{Fits, SFits, toZ, ofZ}
 use mir.Facts.{toZ-ofZ, toZ-pos, toZ-neg}
@@ -25,19 +25,10 @@ use Rattle.ground.specs.declared.refusals.Refusal.the-variants.{
   BufferTooShort,
   FrameBroken,
 }
-use Rattle.ground.specs.Signs.{isNegative}
-use Rattle.ground.proofs.AnswerLaws.{decided}
 use Rattle.cells.specs.Codes.{capped, fromBits, bitsOf}
 use Rattle.cells.specs.Quantities.{missing, Natural32, naturalOf, Signed32, signedOf}
 
 -- ---- tests
-
-pub eqb-decides : (a b : ℕ) → Decides (eqb a b) (a ≡ b)
-eqb-decides a b = by (eqb a b) refl
-  where
-    by : (t : Bool) → eqb a b ≡ t → Decides t (a ≡ b)
-    by true e = eqb-true a b e
-    by false e = eqb-false a b e
 
 pub ltb-decides : (a b : ℕ) → Decides (ltb a b) (a < b)
 ltb-decides a b = by (ltb a b) refl
@@ -45,13 +36,6 @@ ltb-decides a b = by (ltb a b) refl
     by : (t : Bool) → ltb a b ≡ t → Decides t (a < b)
     by true e = ltb-true a b e
     by false e = λ h. omega (arith, ltb-false a b e)
-
-pub leb-decides : (a b : ℕ) → Decides (leb a b) (a ≤ b)
-leb-decides a b = by (leb a b) refl
-  where
-    by : (t : Bool) → leb a b ≡ t → Decides t (a ≤ b)
-    by true e = leb-true a b e
-    by false e = λ h. omega (arith, leb-false a b e)
 
 -- ---- a number that is capped
 

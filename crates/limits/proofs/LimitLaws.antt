@@ -120,9 +120,6 @@ module _ (k : Kind) (n : ℕ) (value : Field → ℕ) where
     counted : value count < 2 ^ widthOf (shapeRows k 0) count
     counted = rw (count-width k n) at (h .each count)
 
-    pub count-most : value count ≤ 15
-    count-most = most k (value count) counted
-
     fixed : (f : Field) → 2 ≤ tag f → tag f < 22 → value f < 2 ^ widthOf (shapeRows k 0) f
     fixed f a b = rw (fixed-width k n f a b) at (h .each f)
 
