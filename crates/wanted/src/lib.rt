@@ -18,6 +18,7 @@ use requests::AreaWanted;
 use requests::Horizontal;
 use requests::Request;
 use requests::Wanted;
+ghost use Rattle.requests.specs.declared.Horizontal.the-variants.{NotAsked};
 ghost use Rattle.requests.specs.Codes.{AltitudeCodes};
 ghost use Rattle.wanted.specs.Coding.{CodesRequest, CodesOrientation, CodesArea, CodesHeight, OrientationOf};
 
@@ -129,13 +130,21 @@ fn area_codes(horizontal: Horizontal, orientation: OrientationCode) -> AreaCoded
                 orientation,
             })
         }
-        Horizontal::NotAsked => AreaCoded::Codes(AreaWanted {
-            asked: false,
-            semi_major: UncertaintyCode(0),
-            semi_minor: UncertaintyCode(0),
-            orientation,
-        }),
+        Horizontal::NotAsked => no_area(orientation),
     }
+}
+
+// No area is asked.
+fn no_area(orientation: OrientationCode) -> AreaCoded
+    requires { ⌜ OrientationOf NotAsked orientation ⌝ }
+    ensures { λ r. ⌜ CodesArea NotAsked r ⌝ }
+{
+    AreaCoded::Codes(AreaWanted {
+        asked: false,
+        semi_major: UncertaintyCode(0),
+        semi_minor: UncertaintyCode(0),
+        orientation,
+    })
 }
 
 fn height_codes(height: AltitudeUncertainty) -> HeightCoded

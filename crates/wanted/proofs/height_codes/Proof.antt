@@ -5,36 +5,36 @@ use borrow.Author.Needs.{needs}
 use Rattle.wanted.proofs.height_codes.Statement.{statement}
 use Rattle.wanted.proofs.height_codes.Tie as tie
 
--- src/lib.rt:145:36
+-- src/lib.rt:154:36
 enum-known-height : tie.Need-enum-known-height
 enum-known-height c = search needs
 
--- src/lib.rt:147:17
+-- src/lib.rt:156:17
 altitude-uncertainty-code-requires : tie.Need-altitude-uncertainty-code-requires
 altitude-uncertainty-code-requires c κs = search needs
 
--- src/lib.rt:146:48
+-- src/lib.rt:155:48
 enum-known-code : tie.Need-enum-known-code
 enum-known-code c = search needs
 
--- src/lib.rt:149:17
+-- src/lib.rt:158:17
 enum-told : tie.Need-enum-told
 enum-told c = search needs
 
--- src/lib.rt:149:17
+-- src/lib.rt:158:17
 returns : tie.Need-returns
 returns c = rw (c .before .before .before .before .height .given .1) (λ h. h (refl, (rw (c .enum-told .given .1) at (c .before .before .altitude-uncertainty-code .ensures)) .1))
 
--- src/lib.rt:155:19
+-- src/lib.rt:164:19
 enum-told-2 : tie.Need-enum-told-2
 enum-told-2 c = search needs
 
--- src/lib.rt:141:1
+-- src/lib.rt:150:1
 returns-2 : tie.Need-returns-2
 returns-2 c = let p = rw (c .before .code .given .1) at (c .before .before .before .altitude-uncertainty-code .ensures) in
     rw (c .before .before .before .before .before .height .given .1) (coded-never altitudeUncertainty _ _ 8 p, (refl, p))
 
--- src/lib.rt:141:1
+-- src/lib.rt:150:1
 returns-3 : tie.Need-returns-3
 returns-3 c = rw (c .enum-told2 .given .1) (tt, (refl, refl))
 

@@ -19,35 +19,35 @@ turned : (R S : Millimetres) (a : Millidegrees) (r : OrientationCoded) → S .0 
 turned R S a (Code N) h p = ((h, coded-never orientation a N 7 p), p)
 turned R S a (Refused why) h p = λ i. i .1 (refl, p .1)
 
--- src/lib.rt:82:57
+-- src/lib.rt:83:57
 enum-told : tie.Need-enum-told
 enum-told c = search needs
 
--- src/lib.rt:84:13
+-- src/lib.rt:85:13
 enum-known-horizontal : tie.Need-enum-known-horizontal
 enum-known-horizontal c = search needs
 
--- src/lib.rt:89:17
+-- src/lib.rt:90:17
 returns : tie.Need-returns
 returns c = rw (c .before .before .before .before .horizontal .given .1) (λ h. omega (arith, h .0))
 
--- src/lib.rt:91:13
+-- src/lib.rt:92:13
 orientation-code-requires : tie.Need-orientation-code-requires
 orientation-code-requires c κs = search needs
 
--- src/lib.rt:93:56
+-- src/lib.rt:94:56
 enum-told-2 : tie.Need-enum-told-2
 enum-told-2 c = search needs
 
--- src/lib.rt:78:1
+-- src/lib.rt:79:1
 returns-2 : tie.Need-returns-2
 returns-2 c = rw (c .enum-told .given .1) (tt, refl)
 
--- src/lib.rt:78:1
+-- src/lib.rt:79:1
 returns-3 : tie.Need-returns-3
 returns-3 c = rw (c .before .before .before .before .before .horizontal .given .1) (turned (c .before .before .before .before .before .horizontal .given .0 .0) (c .before .before .before .before .before .horizontal .given .0 .1 .0) (c .before .before .before .before .before .horizontal .given .0 .1 .1 .0) (c .orientation-code .result) (omega arith) (c .orientation-code .ensures))
 
--- src/lib.rt:78:1
+-- src/lib.rt:79:1
 returns-4 : tie.Need-returns-4
 returns-4 c = rw (c .enum-told2 .given .1) (tt, refl)
 

@@ -16,107 +16,107 @@ within c = record {
   confidences = coded-never confidence (c .before .before .before .before .before .before .before .before .before .before .before .before .before .before .before .before .before .before .args .request .confidence) (c .before .before .before .before .before .confidence .given .0 .0) 7 (rw (c .before .before .before .before .before .confidence .given .1) at (c .before .before .before .before .before .before .before .confidence-code .ensures));
 }
 
--- src/lib.rt:49:41
+-- src/lib.rt:50:41
 latitude-code-requires : tie.Need-latitude-code-requires
 latitude-code-requires c κs = search needs
 
--- src/lib.rt:49:29
+-- src/lib.rt:50:29
 enum-known-latitude : tie.Need-enum-known-latitude
 enum-known-latitude c = search needs
 
--- src/lib.rt:50:38
+-- src/lib.rt:51:38
 enum-told : tie.Need-enum-told
 enum-told c = search needs
 
--- src/lib.rt:50:9
+-- src/lib.rt:51:9
 returns : tie.Need-returns
 returns c = unmet (λ r. r .latitudes (refl, (rw (c .enum-told .given .1) at (c .before .before .latitude-code .ensures)) .1)) refl
 
--- src/lib.rt:52:43
+-- src/lib.rt:53:43
 longitude-code-requires : tie.Need-longitude-code-requires
 longitude-code-requires c κs = search needs
 
--- src/lib.rt:52:30
+-- src/lib.rt:53:30
 enum-known-longitude : tie.Need-enum-known-longitude
 enum-known-longitude c = search needs
 
--- src/lib.rt:53:38
+-- src/lib.rt:54:38
 enum-told-2 : tie.Need-enum-told-2
 enum-told-2 c = search needs
 
--- src/lib.rt:53:9
+-- src/lib.rt:54:9
 returns-2 : tie.Need-returns-2
 returns-2 c = unmet (λ r. r .longitudes (refl, (rw (c .enum-told2 .given .1) at (c .before .before .longitude-code .ensures)) .1)) refl
 
--- src/lib.rt:55:45
+-- src/lib.rt:56:45
 confidence-code-requires : tie.Need-confidence-code-requires
 confidence-code-requires c κs = search needs
 
--- src/lib.rt:55:31
+-- src/lib.rt:56:31
 enum-known-confidence : tie.Need-enum-known-confidence
 enum-known-confidence c = search needs
 
--- src/lib.rt:56:38
+-- src/lib.rt:57:38
 enum-told-3 : tie.Need-enum-told-3
 enum-told-3 c = search needs
 
--- src/lib.rt:56:9
+-- src/lib.rt:57:9
 returns-3 : tie.Need-returns-3
 returns-3 c = unmet (λ r. r .confidences (refl, (rw (c .enum-told3 .given .1) at (c .before .before .confidence-code .ensures)) .1)) refl
 
--- src/lib.rt:58:47
+-- src/lib.rt:59:47
 orientation-code-requires : tie.Need-orientation-code-requires
 orientation-code-requires c κs = search needs
 
--- src/lib.rt:58:32
+-- src/lib.rt:59:32
 enum-known-orientation : tie.Need-enum-known-orientation
 enum-known-orientation c = search needs
 
--- src/lib.rt:59:38
+-- src/lib.rt:60:38
 enum-told-4 : tie.Need-enum-told-4
 enum-told-4 c = search needs
 
--- src/lib.rt:59:9
+-- src/lib.rt:60:9
 returns-4 : tie.Need-returns-4
 returns-4 c = unmet (λ r. (rw (c .enum-told4 .given .1) at (c .before .before .orientation-code .ensures)) (r .horizontals)) refl
 
--- src/lib.rt:61:34
+-- src/lib.rt:62:34
 area-codes-requires : tie.Need-area-codes-requires
 area-codes-requires c κs = (rw (c .before .orientation .given .1) at (c .before .before .before .orientation-code .ensures)) .1
 
--- src/lib.rt:61:26
+-- src/lib.rt:62:26
 enum-known-area : tie.Need-enum-known-area
 enum-known-area c = search needs
 
--- src/lib.rt:62:38
+-- src/lib.rt:63:38
 enum-told-5 : tie.Need-enum-told-5
 enum-told-5 c = search needs
 
--- src/lib.rt:62:9
+-- src/lib.rt:63:9
 returns-5 : tie.Need-returns-5
 returns-5 c = met (within (c .before .before .before)) (unmet (λ h. (rw (c .enum-told5 .given .1) at (c .before .before .area-codes .ensures)) (h .horizontals)) refl)
 
--- src/lib.rt:64:52
+-- src/lib.rt:65:52
 height-codes-requires : tie.Need-height-codes-requires
 height-codes-requires c κs = search needs
 
--- src/lib.rt:64:28
+-- src/lib.rt:65:28
 enum-known-altitude-uncertainty : tie.Need-enum-known-altitude-uncertainty
 enum-known-altitude-uncertainty c = search needs
 
--- src/lib.rt:65:38
+-- src/lib.rt:66:38
 enum-told-6 : tie.Need-enum-told-6
 enum-told-6 c = search needs
 
--- src/lib.rt:65:9
+-- src/lib.rt:66:9
 returns-6 : tie.Need-returns-6
 returns-6 c = met (within (c .before .before .before .before .before .before .before)) (unmet (λ h. (rw (c .enum-told6 .given .1) at (c .before .before .height-codes .ensures)) (h .heights)) refl)
 
--- src/lib.rt:70:19
+-- src/lib.rt:71:19
 altitude-codes-requires : tie.Need-altitude-codes-requires
 altitude-codes-requires c κs = search needs
 
--- src/lib.rt:40:1
+-- src/lib.rt:41:1
 returns-7 : tie.Need-returns-7
 returns-7 c = let a = rw (c .before .before .before .before .before .before .area .given .1) at (c .before .before .before .before .before .before .before .before .area-codes .ensures) in
     let h = rw (c .before .before .altitude-uncertainty .given .1) at (c .before .before .before .before .height-codes .ensures) in (
