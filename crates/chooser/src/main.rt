@@ -5,32 +5,44 @@ use asking::Answer;
 use asking::Asked;
 use streaming::Input;
 use streaming::Output;
+ghost use mathlib.Core.Path.{_≡_};
 ghost use Prim.Native.Nat.{_+_, _≤_};
+ghost use lib.ListN.{length};
 ghost use Rattle.streaming.specs.Streaming.{SoundInput, SoundOutput};
 
 // No answer takes more octets.
 const LONGEST_ANSWER: usize = 65;
 
-// The receiver's list, in a line of so many octets.
-fn list_held(line: &[u8], used: usize) -> u16 {
-    if line.len() < used {
+// The receiver's list, in the line that is held.
+fn list_held(block: &[u8], input: Input) -> u16
+    requires { ⌜ length (now block) ≡ 65536 ⌝ }
+    requires { ⌜ SoundInput input ⌝ }
+{
+    if input.long {
         return 0;
     }
-    asking::list_in(&line[0..used])
+    let from = input.from;
+    let end = input.end;
+    asking::list_in(&block[from..end])
 }
 
-// The request in a line of so many octets.
-fn request_held(line: &[u8], used: usize) -> Asked {
-    if line.len() < used {
+// The request in the line that is held.
+fn request_held(block: &[u8], input: Input) -> Asked
+    requires { ⌜ length (now block) ≡ 65536 ⌝ }
+    requires { ⌜ SoundInput input ⌝ }
+{
+    if input.long {
         return Asked::Unreadable;
     }
-    asking::request_in(&line[0..used])
+    let from = input.from;
+    let end = input.end;
+    asking::request_in(&block[from..end])
 }
 
 // Puts the answer, and answers the place after it. No message is longer than 14 octets.
-fn put_chosen(out: &mut [u8; 4096], at: usize, number: u64, asked: Asked, list: u16) -> usize
-    requires { ⌜ at + 65 ≤ 4096 ⌝ }
-    ensures { λ r. ⌜ r ≤ 4096 ⌝ }
+fn put_chosen(out: &mut [u8; 65536], at: usize, number: u64, asked: Asked, list: u16) -> usize
+    requires { ⌜ at + 65 ≤ 65536 ⌝ }
+    ensures { λ r. ⌜ r ≤ 65536 ⌝ }
 {
     let Asked::Request(request) = asked else {
         return asking::put_answer(out, at, number, Answer::Unreadable, b"");
@@ -48,32 +60,27 @@ fn put_chosen(out: &mut [u8; 4096], at: usize, number: u64, asked: Asked, list: 
     )
 }
 
-// Answers a line of so many octets.
+// Answers the line that is held.
 fn answer_line(
-    out: &mut [u8; 4096],
-    line: &[u8; 4096],
-    used: usize,
+    out: &mut [u8; 65536],
+    block: &[u8; 65536],
+    input: Input,
     list: u16,
     before: Output,
 ) -> Output
+    requires { ⌜ SoundInput input ⌝ }
     requires { ⌜ SoundOutput before ⌝ }
     ensures { λ r. ⌜ SoundOutput r ⌝ }
 {
     let mut output = streaming::make_room(out, before, LONGEST_ANSWER);
     output.answered = streaming::counted(output.answered);
-    let asked = request_held(line, used);
+    let asked = request_held(block, input);
     output.put = put_chosen(out, output.put, output.answered, asked, list);
     output
 }
 
 // Answers every line after the first.
-fn answer_lines(
-    out: &mut [u8; 4096],
-    line: &mut [u8; 4096],
-    block: &mut [u8; 65536],
-    first: Input,
-    list: u16,
-) -> Output
+fn answer_lines(out: &mut [u8; 65536], block: &mut [u8; 65536], first: Input, list: u16) -> Output
     requires { ⌜ SoundInput first ⌝ }
     ensures { λ r. ⌜ SoundOutput r ⌝ }
 {
@@ -81,11 +88,11 @@ fn answer_lines(
     let mut output = streaming::no_output();
     let mut turns = u64::MAX;
     while turns > 0 {
-        input = streaming::next_line(line, block, input);
+        input = streaming::next_line(block, input);
         if !input.ready {
             return output;
         }
-        output = answer_line(out, line, input.used, list, output);
+        output = answer_line(out, block, input, list, output);
         if output.closed {
             return output;
         }
@@ -95,18 +102,17 @@ fn answer_lines(
 }
 
 // Takes the receiver's list, and answers every line after it.
-fn answer_input(out: &mut [u8; 4096], line: &mut [u8; 4096], block: &mut [u8; 65536]) -> Output
+fn answer_input(out: &mut [u8; 65536], block: &mut [u8; 65536]) -> Output
     ensures { λ r. ⌜ SoundOutput r ⌝ }
 {
-    let first = streaming::next_line(line, block, streaming::no_input());
-    let list = list_held(line, first.used);
-    answer_lines(out, line, block, first, list)
+    let first = streaming::next_line(block, streaming::no_input());
+    let list = list_held(block, first);
+    answer_lines(out, block, first, list)
 }
 
 fn main() {
-    let mut out = io::buffer();
-    let mut line = io::buffer();
+    let mut out = io::large_buffer();
     let mut block = io::large_buffer();
-    let output = answer_input(&mut out, &mut line, &mut block);
+    let output = answer_input(&mut out, &mut block);
     streaming::write_end(&mut out, output);
 }

@@ -2,10 +2,10 @@
 use Prim.Native.Nat.{ℕ, zero, suc, _+_, _-_, _*_, _≤_, _<_}
 use mathlib.Core.Path.{_≡_, refl, sym, ap, _∙_}
 use mathlib.Core.Bool.{Bool, true, false, not, _||_}
-use mathlib.Core.List.{List, _++_}
+use mathlib.Core.List.{List, [], _∷_, _++_}
 use native.Mathlib.Omega.{arith}
 use lib.ListN.{length, take, drop, length-drop, length-append}
-use lib.Seq.{drop-drop, length-take-le, take-take}
+use lib.Seq.{drop-drop, length-take-le, take-take, take-nil}
 use lib.Dec.{eqb}
 use borrow.Author.Tests.{eqb-true, eqb-false}
 use borrow.Rule.Slice.PartMut.{putMid, postOf, take-put}
@@ -15,7 +15,12 @@ use Rattle.listing.specs.declared.Listed.{Listed}
 use Rattle.listing.proofs.StreamLaws.{stuck, counted}
 use Rattle.lister.specs.declared.Held.{Held}
 use Rattle.lister.specs.Holding.{octetsHeld, foundIn, Sound, Turned, Refilled, mostFrames, mayRead, turnsLeft}
-use Rattle.lister.proofs.Moves.{drop-take}
+
+drop-take : (n m : ℕ) (l : List ℕ) → drop n (take m l) ≡ take (m - n) (drop n l)
+drop-take zero m l = let e : m - 0 ≡ m = omega arith in rw e
+drop-take (suc n) zero l = let e : 0 - suc n ≡ 0 = omega arith in rw e
+drop-take (suc n) (suc m) [] = sym (take-nil (suc m - suc n))
+drop-take (suc n) (suc m) (x ∷ l) = let e : suc m - suc n ≡ m - n = omega arith in rw e (drop-take n m l)
 
 -- ---- the steps
 

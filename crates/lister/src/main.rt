@@ -1,8 +1,8 @@
 // Lists the log on standard input: a line for each frame, and a last line with the number of the unbroken ones. Document 01, "The lister".
 ghost use mathlib.Core.Path.{_≡_};
 ghost use mathlib.Core.Bool.{not, _||_};
-ghost use Prim.Native.Nat.{_≤_, _<_, _-_};
-ghost use lib.ListN.{length, take, drop};
+ghost use Prim.Native.Nat.{_≤_, _<_};
+ghost use lib.ListN.{length};
 ghost use Rattle.steps.specs.Steps.{longestStep};
 ghost use Rattle.lister.specs.Holding.{Sound, Refilled, Turned, Goes, mostFrames};
 
@@ -106,7 +106,7 @@ fn refill(buf: &mut [u8], held: Held) -> Held
 {
     let at = held.at;
     let fill = held.fill;
-    shift(buf, at, fill);
+    streaming::shift(buf, at, fill);
     let kept = fill - at;
     let got = libc::read(0, &mut buf[kept..]);
     let more = io::count(got, &buf[kept..]);
@@ -117,18 +117,5 @@ fn refill(buf: &mut [u8], held: Held) -> Held
         last: more == 0,
         written: held.written,
         ended: false,
-    }
-}
-
-// Moves the octets from at to fill to the buffer's start.
-fn shift(buf: &mut [u8], at: usize, fill: usize)
-    requires { ⌜ (at ≤ fill) × (fill ≤ length (now buf)) ⌝ }
-    ensures { λ _. ⌜ take (fill - at) (now (buf .exit)) ≡ take (fill - at) (drop at (now (buf .entry))) ⌝ }
-{
-    let size = fill - at;
-    let mut i = 0;
-    while i < size {
-        buf[i] = buf[at + i];
-        i += 1;
     }
 }

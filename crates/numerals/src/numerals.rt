@@ -53,7 +53,7 @@ pub fn digits_from(s: &[u8], from: usize) -> Digits
     let mut size: u64 = 0;
     let mut i = from;
     while i < s.len() {
-        let b = s[i];
+        let b = s[i] as u64;
         if b < 48 {
             return Digits { size, end: i };
         }
@@ -67,19 +67,18 @@ pub fn digits_from(s: &[u8], from: usize) -> Digits
 }
 
 // One digit more after a number, as far as 64 bits can hold it. Most numbers are far from that, and take one test.
-fn grown(size: u64, digit: u8) -> u64
+fn grown(size: u64, digit: u64) -> u64
     requires { ⌜ digit < 10 ⌝ }
     ensures { λ r. ⌜ r ≡ min (10 * size + digit) 18446744073709551615 ⌝ }
 {
-    let d = digit as u64;
     if size < 1844674407370955161 {
-        return size * 10 + d;
+        return size * 10 + digit;
     }
     if 1844674407370955161 < size {
         return 18446744073709551615;
     }
-    if 18446744073709551615 - size * 10 < d {
+    if 18446744073709551615 - size * 10 < digit {
         return 18446744073709551615;
     }
-    size * 10 + d
+    size * 10 + digit
 }

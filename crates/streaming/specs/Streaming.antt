@@ -4,13 +4,21 @@ use Prim.Native.Nat.{ℕ, _+_, _≤_, min}
 use Rattle.streaming.specs.declared.input.Input.{Input}
 use Rattle.streaming.specs.declared.output.Output.{Output}
 
+-- what is not yet taken lies in what was read, and the line in the block of 65536 octets
 pub record SoundInput (i : Input) : Type 0 where
   pub order : i .taken ≤ i .read
   pub block : i .read ≤ 65536
-  pub line : i .used ≤ 4097
+  pub line : i .from ≤ i .end
+  pub inside : i .end ≤ 65536
+
+-- a line of what is not yet taken goes up to `end`, and what is taken with it up to `taken`
+pub record Cuts (i : Input) (end taken : ℕ) : Type 0 where
+  pub start : i .taken ≤ end
+  pub order : end ≤ taken
+  pub read : taken ≤ i .read
 
 pub record SoundOutput (o : Output) : Type 0 where
-  pub answers : o .put ≤ 4096
+  pub answers : o .put ≤ 65536
 
 -- no answers are left to write, and as many lines are answered; whether a write failed is the system's to say
 pub record Emptied (before after : Output) : Type 0 where

@@ -1,20 +1,23 @@
-// Lines of standard input. A line of more than 4096 octets is not kept.
+// Lines of standard input, where the block that was read has them. A line of more than 4096 octets is not kept.
+use crate::block;
 ghost use mathlib.Core.Path.{_≡_};
 ghost use Prim.Native.Nat.{_≤_};
 ghost use lib.ListN.{length};
-ghost use Rattle.streaming.specs.Streaming.{SoundInput};
+ghost use Rattle.streaming.specs.Streaming.{SoundInput, Cuts};
 
 const LONGEST_LINE: usize = 4096;
 
 pub struct Input {
-    // octets of the block that were read, and how many of them are taken
-    pub read: usize,
+    // the octets of the block from `taken` to `read` are read and not yet taken
     pub taken: usize,
+    pub read: usize,
     // a read gave nothing: the input is over
     pub over: bool,
-    // octets of the line; one more than the longest where there are more
-    pub used: usize,
-    // the line is ended, and not yet answered
+    // the line's octets go from `from` to `end`; of a long one they are no more than a part
+    pub from: usize,
+    pub end: usize,
+    pub long: bool,
+    // there is a line
     pub ready: bool,
 }
 
@@ -22,86 +25,108 @@ pub fn no_input() -> Input
     ensures { λ r. ⌜ SoundInput r ⌝ }
 {
     Input {
-        read: 0,
         taken: 0,
+        read: 0,
         over: false,
-        used: 0,
+        from: 0,
+        end: 0,
+        long: false,
         ready: false,
     }
 }
 
-// Goes on to the end of the next line, or of the input, which ends a last line too.
-pub fn next_line(line: &mut [u8; 4096], block: &mut [u8; 65536], before: Input) -> Input
+// Goes on to the next line. The end of the input ends a last line, too.
+pub fn next_line(block: &mut [u8; 65536], before: Input) -> Input
     requires { ⌜ SoundInput before ⌝ }
     ensures { λ r. ⌜ SoundInput r ⌝ }
 {
     let mut input = before;
-    input.used = 0;
+    input.long = false;
     input.ready = false;
     let mut turns = u64::MAX;
     while turns > 0 {
-        input = filled(block, input);
+        let end = newline(block, input);
+        if end < input.read {
+            return cut(input, end, end + 1);
+        }
         if input.over {
-            input.ready = 0 < input.used;
-            return input;
+            return last_line(input);
         }
-        input = take_piece(line, block, input);
-        if input.ready {
-            return input;
-        }
+        input = refilled(block, shortened(input));
         turns -= 1;
     }
     input
 }
 
-// Reads a block where the last one is all taken. What is over is not read again.
-fn filled(block: &mut [u8; 65536], before: Input) -> Input
-    requires { ⌜ SoundInput before ⌝ }
-    ensures { λ r. ⌜ SoundInput r ⌝ }
+// The place of the first newline that is not yet taken, or the end of what was read where there is none.
+fn newline(block: &[u8], input: Input) -> usize
+    requires { ⌜ length (now block) ≡ 65536 ⌝ }
+    requires { ⌜ SoundInput input ⌝ }
+    ensures { λ r. ⌜ (input .taken ≤ r) × (r ≤ input .read) ⌝ }
 {
-    let mut input = before;
-    if input.taken < input.read {
-        return input;
-    }
-    if input.over {
-        return input;
-    }
-    let got = libc::read(0, block);
-    input.read = io::count(got, block);
-    input.taken = 0;
-    input.over = input.read == 0;
-    input
+    let read = input.read;
+    numerals::line_end(&block[0..read], input.taken)
 }
 
-// Takes the block up to a newline, or to its end, and holds that.
-fn take_piece(line: &mut [u8; 4096], block: &[u8], before: Input) -> Input
-    requires { ⌜ length (now block) ≡ 65536 ⌝ }
+// The line up to `end`; what is taken goes up to `taken`.
+fn cut(before: Input, end: usize, taken: usize) -> Input
     requires { ⌜ SoundInput before ⌝ }
+    requires { ⌜ Cuts before end taken ⌝ }
     ensures { λ r. ⌜ SoundInput r ⌝ }
 {
     let mut input = before;
-    let from = input.taken;
-    let read = input.read;
-    let end = numerals::line_end(&block[0..read], from);
-    input.used = hold(line, input.used, &block[from..end]);
-    if end == read {
-        input.taken = end;
-        return input;
+    if LONGEST_LINE < end - input.taken {
+        input.long = true;
     }
-    input.taken = end + 1;
+    input.from = input.taken;
+    input.end = end;
+    input.taken = taken;
     input.ready = true;
     input
 }
 
-// Adds a piece of a line to what is held of it, and answers how many octets that makes.
-fn hold(line: &mut [u8; 4096], used: usize, piece: &[u8]) -> usize
-    ensures { λ r. ⌜ r ≤ 4097 ⌝ }
+// What is left at the end of the input is a line, unless it is nothing.
+fn last_line(input: Input) -> Input
+    requires { ⌜ SoundInput input ⌝ }
+    ensures { λ r. ⌜ SoundInput r ⌝ }
 {
-    if LONGEST_LINE < used {
-        return LONGEST_LINE + 1;
+    let read = input.read;
+    if input.long {
+        return cut(input, read, read);
     }
-    if LONGEST_LINE - used < piece.len() {
-        return LONGEST_LINE + 1;
+    if input.taken < read {
+        return cut(input, read, read);
     }
-    text::put_bytes(line, used, piece)
+    input
+}
+
+// A line that is already longer than the longest is dropped, as far as it was read.
+fn shortened(before: Input) -> Input
+    requires { ⌜ SoundInput before ⌝ }
+    ensures { λ r. ⌜ SoundInput r ⌝ }
+{
+    let mut input = before;
+    if LONGEST_LINE < input.read - input.taken {
+        input.long = true;
+        input.taken = input.read;
+    }
+    input
+}
+
+// Reads once, behind what is not yet taken, which is moved to the start.
+fn refilled(octets: &mut [u8], before: Input) -> Input
+    requires { ⌜ length (now octets) ≡ 65536 ⌝ }
+    requires { ⌜ SoundInput before ⌝ }
+    ensures { λ r. ⌜ SoundInput r ⌝ }
+{
+    let mut input = before;
+    let taken = input.taken;
+    let kept = input.read - taken;
+    block::shift(octets, taken, input.read);
+    let got = libc::read(0, &mut octets[kept..]);
+    let more = io::count(got, &octets[kept..]);
+    input.taken = 0;
+    input.read = kept + more;
+    input.over = more == 0;
+    input
 }

@@ -1,8 +1,10 @@
-// What the programs that answer lines share: the lines of standard input, however the reads cut them, and answers that are
-// kept until there is no room for one more.
+// What the programs share: room for the next read; and, of those that answer lines, the lines of standard input, however the reads
+// cut them, and answers that are kept until there is no room for one more.
+mod block;
 mod input;
 mod output;
 
+pub use block::shift;
 pub use input::Input;
 pub use input::next_line;
 pub use input::no_input;

@@ -5,7 +5,7 @@ ghost use mathlib.Core.Path.{_≡_};
 ghost use Rattle.streaming.specs.Streaming.{SoundOutput, Emptied, oneMore};
 
 // Answers are written before they take more octets.
-const ROOM: usize = 4096;
+const ROOM: usize = 65536;
 
 // No last line takes more octets.
 const LONGEST_END: usize = 46;
@@ -30,10 +30,10 @@ pub fn no_output() -> Output
 }
 
 // Writes the answers if there is no room for one more of so many octets.
-pub fn make_room(out: &[u8; 4096], output: Output, longest: usize) -> Output
+pub fn make_room(out: &[u8; 65536], output: Output, longest: usize) -> Output
     requires { ⌜ SoundOutput output ⌝ }
-    requires { ⌜ longest ≤ 4096 ⌝ }
-    ensures { λ r. ⌜ r .put + longest ≤ 4096 ⌝ }
+    requires { ⌜ longest ≤ 65536 ⌝ }
+    ensures { λ r. ⌜ r .put + longest ≤ 65536 ⌝ }
 {
     if ROOM - output.put < longest {
         let done = written(out, output.put);
@@ -57,7 +57,7 @@ pub fn counted(answered: u64) -> u64
 }
 
 // Writes the answers that are left, and the number of lines. Nothing is written after a write that failed.
-pub fn write_end(out: &mut [u8; 4096], output: Output) -> Output
+pub fn write_end(out: &mut [u8; 65536], output: Output) -> Output
     requires { ⌜ SoundOutput output ⌝ }
     ensures { λ r. ⌜ Emptied output r ⌝ }
 {

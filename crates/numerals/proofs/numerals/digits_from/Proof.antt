@@ -20,6 +20,9 @@ loop-holds c = (omega arith, row-none (omega arith))
 shared-slice-read-b : tie.Need-shared-slice-read-b Inv-loop μ-loop
 shared-slice-read-b c = search needs
 
+cast-b : tie.Need-cast-b Inv-loop μ-loop
+cast-b c = omega (arith, c .shared-slice-known2 .given (c .before .before .loop .i))
+
 returns : tie.Need-returns Inv-loop μ-loop
 returns c = record { row = c .before .before .before .loop .inv .1; stops = λ h. below {b = getD (c .before .before .before .before .before .args .s .now) (c .before .before .before .loop .i) 0} (omega arith) }
 
@@ -49,6 +52,7 @@ digits-from-spec =
     μ-loop
     loop-holds
     shared-slice-read-b
+    cast-b
     returns
     returns-2
     grown-requires

@@ -5,25 +5,37 @@ use Rattle.streaming.proofs.input.next_line.Statement.{statement}
 use Rattle.streaming.proofs.input.next_line.Tie as tie
 
 abbrev Inv-loop : tie.InvT-loop
-Inv-loop line₀ block₀ input₀ turns₀ line block input turns = SoundInput input
+Inv-loop block₀ input₀ turns₀ block input turns = SoundInput input
 
 abbrev μ-loop : tie.MeasureT-loop
-μ-loop line₀ block₀ input₀ turns₀ line block input turns = turns
+μ-loop block₀ input₀ turns₀ block input turns = turns
 
 loop-holds : tie.Need-loop-holds Inv-loop μ-loop
 loop-holds c = search needs
 
-filled-requires : tie.Need-filled-requires Inv-loop μ-loop
-filled-requires c κs = search needs
+newline-requires : tie.Need-newline-requires Inv-loop μ-loop
+newline-requires c κs = search needs
+
+add-cut : tie.Need-add-cut Inv-loop μ-loop
+add-cut c = search needs
+
+cut-requires : tie.Need-cut-requires Inv-loop μ-loop
+cut-requires c κs = search needs
 
 returns : tie.Need-returns Inv-loop μ-loop
 returns c = search needs
 
-take-piece-requires : tie.Need-take-piece-requires Inv-loop μ-loop
-take-piece-requires c κs = search needs
+last-line-requires : tie.Need-last-line-requires Inv-loop μ-loop
+last-line-requires c κs = search needs
 
 returns-2 : tie.Need-returns-2 Inv-loop μ-loop
 returns-2 c = search needs
+
+shortened-requires : tie.Need-shortened-requires Inv-loop μ-loop
+shortened-requires c κs = search needs
+
+refilled-requires : tie.Need-refilled-requires Inv-loop μ-loop
+refilled-requires c κs = search needs
 
 sub-turns : tie.Need-sub-turns Inv-loop μ-loop
 sub-turns c = search needs
@@ -44,10 +56,14 @@ next-line-spec =
     Inv-loop
     μ-loop
     loop-holds
-    filled-requires
+    newline-requires
+    add-cut
+    cut-requires
     returns
-    take-piece-requires
+    last-line-requires
     returns-2
+    shortened-requires
+    refilled-requires
     sub-turns
     loop-less
     loop-again

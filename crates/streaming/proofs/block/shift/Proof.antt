@@ -4,9 +4,9 @@ use native.Mathlib.Omega.{arith}
 use Prim.Native.Nat.{_≤_, _-_}
 use mathlib.Core.Path.{_≡_, refl}
 use lib.ListN.{length, take, drop, length-set}
-use Rattle.lister.proofs.Moves.{moved, later}
-use Rattle.lister.proofs.shift.Statement.{statement}
-use Rattle.lister.proofs.shift.Tie as tie
+use Rattle.streaming.proofs.Moves.{moved, later}
+use Rattle.streaming.proofs.block.shift.Statement.{statement}
+use Rattle.streaming.proofs.block.shift.Tie as tie
 
 abbrev Inv-loop : tie.InvT-loop
 Inv-loop buf₀ at fill size i₀ buf i = (length buf ≡ length buf₀) × (i ≤ size) × (take i buf ≡ take i (drop at buf₀)) × (drop i buf ≡ drop i buf₀)

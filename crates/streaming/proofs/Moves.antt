@@ -1,12 +1,12 @@
 -- Octets moved down a buffer, one at a time. Assumes nothing.
-use Prim.Native.Nat.{ℕ, zero, suc, _+_, _-_, _<_}
+use Prim.Native.Nat.{ℕ, _+_, _<_}
 use mathlib.Core.Path.{_≡_, sym, ap, _∙_}
-use mathlib.Core.List.{List, [], _∷_}
+use mathlib.Core.List.{List}
 use native.Mathlib.Omega.{arith}
 use native.Mathlib.Nat.{add-comm}
 use native.Mathlib.Numerals.{add-one}
 use lib.ListN.{length, getD, take, drop, set, length-drop}
-use lib.Seq.{take-suc, take-suc-set, getD-drop, drop-set-lt, drop-drop, take-nil}
+use lib.Seq.{take-suc, take-suc-set, getD-drop, drop-set-lt, drop-drop}
 
 -- b is b₀ with the first i octets from `at` on moved to its start
 module _ (b b₀ : List ℕ) (at i : ℕ) (h : at + i < length b) (l : length b ≡ length b₀) (p : take i b ≡ take i (drop at b₀)) (q : drop i b ≡ drop i b₀) where
@@ -22,9 +22,3 @@ module _ (b b₀ : List ℕ) (at i : ℕ) (h : at + i < length b) (l : length b 
 
   pub later : drop (i + 1) (set b i (getD b (at + i) 0)) ≡ drop (i + 1) b₀
   later = drop-set-lt (i + 1) b i (getD b (at + i) 0) (omega arith) ∙ sym (drop-drop 1 i b) ∙ ap (drop 1) q ∙ drop-drop 1 i b₀
-
-pub drop-take : (n m : ℕ) (l : List ℕ) → drop n (take m l) ≡ take (m - n) (drop n l)
-drop-take zero m l = let e : m - 0 ≡ m = omega arith in rw e
-drop-take (suc n) zero l = let e : 0 - suc n ≡ 0 = omega arith in rw e
-drop-take (suc n) (suc m) [] = sym (take-nil (suc m - suc n))
-drop-take (suc n) (suc m) (x ∷ l) = let e : suc m - suc n ≡ m - n = omega arith in rw e (drop-take n m l)
