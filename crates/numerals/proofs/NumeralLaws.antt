@@ -3,7 +3,7 @@ use mathlib.Core.Path.{_≡_, refl, sym, ap, _∙_, subst}
 use mathlib.Core.Bool.{Bool, true, false}
 use mathlib.Core.List.{List, [], _∷_, _++_, append-assoc, append-nil}
 use mathlib.Core.Logic.{⊎-elim}
-use Prim.Native.Nat.{ℕ, suc, _+_, _*_, _-_, _≤_, _<_, min}
+use Prim.Native.Nat.{ℕ, suc, _+_, _*_, _-_, _%_, _≤_, _<_, min}
 use native.Mathlib.Nat.{min-eq-left, min-eq-right, le-of-lt}
 use native.Mathlib.Omega.{arith}
 use borrow.Author.Count.{below-more}
@@ -33,14 +33,16 @@ cut negative v s =
 
 -- ---- one octet
 
-pub digit : {b : ℕ} → 48 ≤ b → b ≤ 57 → isDigit b ≡ true
-digit {b} low high = simp (le-ltb b 48 low, lt-ltb b 58 (omega arith))
+-- d is the octet b less 48, modulo 2 ^ 64
+module _ {b d : ℕ} (e : (d + 48) % 18446744073709551616 ≡ b) where
+  pub value : d ≤ 9 → b - 48 ≡ d
+  value h = omega arith
 
-pub below : {b : ℕ} → b < 48 → isDigit b ≡ false
-below {b} h = simp (lt-ltb b 48 h)
+  pub digit : d ≤ 9 → isDigit b ≡ true
+  digit h = simp (le-ltb b 48 (omega arith), lt-ltb b 58 (omega arith))
 
-pub above : {b : ℕ} → 57 < b → isDigit b ≡ false
-above {b} h = simp (le-ltb b 48 (omega arith), le-ltb b 58 (omega arith))
+  pub no-digit : 9 < d → d < 18446744073709551616 → isDigit b ≡ false
+  no-digit h l = ⊎-elim (λ (u : b < 48). simp (lt-ltb b 48 u)) (λ (u : 48 ≤ b). simp (le-ltb b 48 u, le-ltb b 58 (omega arith))) (split b 48)
 
 pub nothing-from : (negative : Bool) (v b : ℕ) (s : List ℕ) → isDigit b ≡ false → Nothing ≡ numberFrom negative v (b ∷ s)
 unfolding numberFrom

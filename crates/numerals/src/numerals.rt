@@ -53,14 +53,12 @@ pub fn digits_from(s: &[u8], from: usize) -> Digits
     let mut size: u64 = 0;
     let mut i = from;
     while i < s.len() {
-        let b = s[i] as u64;
-        if b < 48 {
+        // an octet below the digit 0 wraps to a number far above 9
+        let digit = std::num::wrapping_sub_u64(s[i] as u64, 48);
+        if 9 < digit {
             return Digits { size, end: i };
         }
-        if 57 < b {
-            return Digits { size, end: i };
-        }
-        size = grown(size, b - 48);
+        size = grown(size, digit);
         i += 1;
     }
     Digits { size, end: i }

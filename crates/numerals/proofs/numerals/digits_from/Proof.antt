@@ -4,7 +4,7 @@ use borrow.Author.Needs.{needs}
 use native.Mathlib.Omega.{arith}
 use lib.ListN.{length, getD}
 use Rattle.numerals.specs.Numerals.{Row}
-use Rattle.numerals.proofs.NumeralLaws.{digit, below, above, row-none, row-more}
+use Rattle.numerals.proofs.NumeralLaws.{value, digit, no-digit, row-none, row-more}
 use Rattle.numerals.proofs.numerals.digits_from.Statement.{statement}
 use Rattle.numerals.proofs.numerals.digits_from.Tie as tie
 
@@ -17,17 +17,17 @@ abbrev μ-loop : tie.MeasureT-loop
 loop-holds : tie.Need-loop-holds Inv-loop μ-loop
 loop-holds c = (omega arith, row-none (omega arith))
 
-shared-slice-read-b : tie.Need-shared-slice-read-b Inv-loop μ-loop
-shared-slice-read-b c = search needs
+shared-slice-read-wrapping-sub-u64 : tie.Need-shared-slice-read-wrapping-sub-u64 Inv-loop μ-loop
+shared-slice-read-wrapping-sub-u64 c = search needs
 
-cast-b : tie.Need-cast-b Inv-loop μ-loop
-cast-b c = omega (arith, c .shared-slice-known2 .given (c .before .before .loop .i))
+cast-wrapping-sub-u64 : tie.Need-cast-wrapping-sub-u64 Inv-loop μ-loop
+cast-wrapping-sub-u64 c = omega (arith, c .shared-slice-known2 .given (c .before .before .loop .i))
+
+wrapping-sub-u64-requires : tie.Need-wrapping-sub-u64-requires Inv-loop μ-loop
+wrapping-sub-u64-requires c κs = search needs
 
 returns : tie.Need-returns Inv-loop μ-loop
-returns c = record { row = c .before .before .before .loop .inv .1; stops = λ h. below {b = getD (c .before .before .before .before .before .args .s .now) (c .before .before .before .loop .i) 0} (omega arith) }
-
-returns-2 : tie.Need-returns-2 Inv-loop μ-loop
-returns-2 c = record { row = c .before .before .before .before .loop .inv .1; stops = λ h. above {b = getD (c .before .before .before .before .before .before .args .s .now) (c .before .before .before .before .loop .i) 0} (omega arith) }
+returns c = record { row = c .before .before .before .before .loop .inv .1; stops = λ h. no-digit (c .before .wrapping-sub-u64 .ensures) (omega arith) (omega arith) }
 
 grown-requires : tie.Need-grown-requires Inv-loop μ-loop
 grown-requires c κs = search needs
@@ -39,10 +39,12 @@ loop-less : tie.Need-loop-less Inv-loop μ-loop
 loop-less c = search needs
 
 loop-again : tie.Need-loop-again Inv-loop μ-loop
-loop-again c = (omega arith, rw (c .grown .ensures) (row-more (c .before .before .before .before .before .loop .inv .1) (omega arith) (digit {b = getD (c .before .before .before .before .before .before .before .args .s .now) (c .before .before .before .before .before .loop .i) 0} (omega arith) (omega arith))))
+loop-again c =
+    let e = c .before .before .wrapping-sub-u64 .ensures in
+    (omega arith, rw (c .grown .ensures, ← value e (omega arith)) (row-more (c .before .before .before .before .before .loop .inv .1) (omega arith) (digit e (omega arith))))
 
-returns-3 : tie.Need-returns-3 Inv-loop μ-loop
-returns-3 c = record { row = c .before .loop .inv .1; stops = λ h. absurd (omega arith) }
+returns-2 : tie.Need-returns-2 Inv-loop μ-loop
+returns-2 c = record { row = c .before .loop .inv .1; stops = λ h. absurd (omega arith) }
 
 pub digits-from-spec : {M : Type 1} → statement M
 digits-from-spec =
@@ -51,12 +53,12 @@ digits-from-spec =
     Inv-loop
     μ-loop
     loop-holds
-    shared-slice-read-b
-    cast-b
+    shared-slice-read-wrapping-sub-u64
+    cast-wrapping-sub-u64
+    wrapping-sub-u64-requires
     returns
-    returns-2
     grown-requires
     add-i
     loop-less
     loop-again
-    returns-3)
+    returns-2)
