@@ -1,3 +1,4 @@
 pub mod OutputLaws
 pub mod WithinLaws
 pub mod OctetLaws
+pub mod JoinedLaws

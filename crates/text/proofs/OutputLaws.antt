@@ -6,6 +6,7 @@ use mathlib.Core.List.{List, [], _∷_, _++_, append-assoc}
 use mathlib.Core.Logic.{_⊎_, inl, inr, ⊎-elim}
 use native.Mathlib.Nat.{pow-suc, div-lt-iff-lt-mul, add-zero, add-suc, suc-add, add-assoc}
 use native.Mathlib.Omega.{arith}
+use native.Mathlib.Numerals.{add-one}
 use lib.ListN.{length, take, drop, set, length-append}
 use lib.Seq.{sets, length-sets, sets-eq, length-take-le, take-at, drop-at}
 use lib.Dec.{T, ltb}
@@ -30,9 +31,18 @@ then {x} {y} {z} {t} {u} {i} p q =
 pub one : (x : List ℕ) (i b : ℕ) → Puts x i (b ∷ []) (set x i b) (i + 1)
 one x i b = record { content = refl; place = refl }
 
--- two octets put
-pub two : (x : List ℕ) (i a b : ℕ) → Puts x i (a ∷ b ∷ []) (set (set x i a) (i + 1) b) (i + 2)
-two x i a b = record { content = then (one x i a) (one (set x i a) (i + 1) b) .content; place = omega arith }
+-- octets set at places counted from i
+abbrev pub stored : List ℕ → ℕ → ℕ → List ℕ → List ℕ
+stored x i k [] = x
+stored x i k (b ∷ s) = stored (set x (i + k) b) i (suc k) s
+
+stored-sets : (x : List ℕ) (i k : ℕ) (s : List ℕ) → stored x i k s ≡ sets x (i + k) s
+stored-sets x i k [] = refl
+stored-sets x i k (b ∷ s) = rw (stored-sets (set x (i + k) b) i (suc k) s, add-suc)
+
+-- one octet put, and others after it
+pub row : (x : List ℕ) (i b : ℕ) (s : List ℕ) → Puts x i (b ∷ s) (stored (set x i b) i 1 s) (i + suc (length s))
+row x i b s = record { content = stored-sets (set x i b) i 1 s ∙ rw add-one; place = refl }
 
 -- nothing put
 pub none : {x : List ℕ} {i : ℕ} → Puts x i [] x i

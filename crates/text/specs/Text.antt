@@ -2,7 +2,7 @@
 use mathlib.Core.Path.{_≡_}
 use mathlib.Core.Bool.{cond}
 use mathlib.Core.List.{List, [], _∷_, _++_}
-use Prim.Native.Nat.{ℕ, zero, suc, _+_, _/_, _%_, _≤_}
+use Prim.Native.Nat.{ℕ, zero, suc, _+_, _*_, _/_, _%_, _≤_, _<_}
 use lib.ListN.{length}
 use lib.Seq.{sets}
 use lib.Dec.{ltb}
@@ -26,6 +26,29 @@ four n = pair (n / 100) ++ pair (n % 100)
 
 abbrev pub eight : ℕ → List ℕ
 eight n = four (n / 10000) ++ four (n % 10000)
+
+-- numbers below a base as one number, the first lowest
+unfoldable pub joined : ℕ → List ℕ → ℕ
+joined base [] = 0
+joined base (x ∷ s) = x + base * joined base s
+
+-- four numbers in sixteen bits each, and the four pairs of eight digits so
+abbrev pub lanes : ℕ → ℕ → ℕ → ℕ → ℕ
+lanes a b c d = joined 65536 (a ∷ b ∷ c ∷ d ∷ [])
+
+abbrev pub pairs : ℕ → ℕ
+pairs n = lanes (n / 10000 / 100) (n / 10000 % 100) (n % 10000 / 100) (n % 10000 % 100)
+
+-- each has at most two digits
+pub record TwoDigits (a b c d : ℕ) : Type 0 where
+  pub first : a < 100
+  pub second : b < 100
+  pub third : c < 100
+  pub fourth : d < 100
+
+-- where x is four such numbers, r is their tens
+pub record Tens (x r : ℕ) : Type 0 where
+  pub tens : {a b c d : ℕ} → TwoDigits a b c d → x ≡ lanes a b c d → r ≡ lanes (a / 10) (b / 10) (c / 10) (d / 10)
 
 -- a whole number in decimal, with a minus sign where it is below zero
 unfoldable pub signedDecimal : ℤ → List ℕ

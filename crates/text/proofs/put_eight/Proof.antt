@@ -1,20 +1,120 @@
--- Four digits after four digits.
-use Rattle.text.proofs.OutputLaws.{then}
+-- The eight octets of one number are set, one after the other.
+use native.Mathlib.Omega.{arith}
+use lib.ListN.{length-set}
+use Rattle.text.proofs.JoinedLaws.{apart-joined, digits-small, octets-put}
 use borrow.Author.Needs.{needs}
 use Rattle.text.proofs.put_eight.Statement.{statement}
 use Rattle.text.proofs.put_eight.Tie as tie
 
-put-four-requires : tie.Need-put-four-requires
-put-four-requires c κs = search needs
+eight-text-requires : tie.Need-eight-text-requires
+eight-text-requires c κs = search needs
 
-put-four-requires-2 : tie.Need-put-four-requires-2
-put-four-requires-2 c κs = search needs
+cast-out : tie.Need-cast-out
+cast-out c = search needs
+
+slice-write-out : tie.Need-slice-write-out
+slice-write-out c = search needs
+
+cast-out-2 : tie.Need-cast-out-2
+cast-out-2 c = search needs
+
+add-out : tie.Need-add-out
+add-out c = search needs
+
+slice-write-out-2 : tie.Need-slice-write-out-2
+slice-write-out-2 c = simp length-set (omega arith)
+
+cast-out-3 : tie.Need-cast-out-3
+cast-out-3 c = search needs
+
+add-out-2 : tie.Need-add-out-2
+add-out-2 c = search needs
+
+slice-write-out-3 : tie.Need-slice-write-out-3
+slice-write-out-3 c = simp length-set (omega arith)
+
+cast-out-4 : tie.Need-cast-out-4
+cast-out-4 c = search needs
+
+add-out-3 : tie.Need-add-out-3
+add-out-3 c = search needs
+
+slice-write-out-4 : tie.Need-slice-write-out-4
+slice-write-out-4 c = simp length-set (omega arith)
+
+cast-out-5 : tie.Need-cast-out-5
+cast-out-5 c = search needs
+
+add-out-4 : tie.Need-add-out-4
+add-out-4 c = search needs
+
+slice-write-out-5 : tie.Need-slice-write-out-5
+slice-write-out-5 c = simp length-set (omega arith)
+
+cast-out-6 : tie.Need-cast-out-6
+cast-out-6 c = search needs
+
+add-out-5 : tie.Need-add-out-5
+add-out-5 c = search needs
+
+slice-write-out-6 : tie.Need-slice-write-out-6
+slice-write-out-6 c = simp length-set (omega arith)
+
+cast-out-7 : tie.Need-cast-out-7
+cast-out-7 c = search needs
+
+add-out-6 : tie.Need-add-out-6
+add-out-6 c = search needs
+
+slice-write-out-7 : tie.Need-slice-write-out-7
+slice-write-out-7 c = simp length-set (omega arith)
+
+cast-out-8 : tie.Need-cast-out-8
+cast-out-8 c = search needs
+
+add-out-7 : tie.Need-add-out-7
+add-out-7 c = search needs
+
+slice-write-out-8 : tie.Need-slice-write-out-8
+slice-write-out-8 c = simp length-set (omega arith)
+
+add-result : tie.Need-add-result
+add-result c = search needs
 
 same-length : tie.Need-same-length
-same-length c = search needs
+same-length c = simp length-set
 
 returns : tie.Need-returns
-returns c = then (c .before .before .before .before .before .before .put-four .ensures) (c .before .before .put-four2 .ensures)
+returns c = octets-put _ _ _ (apart-joined 256 _ _ _ (c .eight-text .ensures) (digits-small (c .before .before .pre .0)))
 
 pub put-eight-spec : {M : Type 1} → statement M
-put-eight-spec = tie.close (tie.spec put-four-requires put-four-requires-2 same-length returns)
+put-eight-spec =
+    tie.close
+    (tie.spec
+    eight-text-requires
+    cast-out
+    slice-write-out
+    cast-out-2
+    add-out
+    slice-write-out-2
+    cast-out-3
+    add-out-2
+    slice-write-out-3
+    cast-out-4
+    add-out-3
+    slice-write-out-4
+    cast-out-5
+    add-out-4
+    slice-write-out-5
+    cast-out-6
+    add-out-5
+    slice-write-out-6
+    cast-out-7
+    add-out-6
+    slice-write-out-7
+    cast-out-8
+    add-out-7
+    slice-write-out-8
+    add-result
+    same-length
+    returns)

@@ -1,5 +1,6 @@
 -- Two octets are set, one after the other.
-use Rattle.text.proofs.OutputLaws.{two}
+use Rattle.text.proofs.OutputLaws.{row}
+use mathlib.Core.List.{[], _∷_}
 use lib.ListN.{length-set}
 use borrow.Author.Needs.{needs}
 use Rattle.text.proofs.put_pair.Statement.{statement}
@@ -33,7 +34,7 @@ same-length : tie.Need-same-length
 same-length c = search needs
 
 returns : tie.Need-returns
-returns c = two _ _ _ _
+returns c = row _ _ _ (_ ∷ [])
 
 pub put-pair-spec : {M : Type 1} → statement M
 put-pair-spec =
