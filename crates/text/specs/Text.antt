@@ -39,16 +39,25 @@ lanes a b c d = joined 65536 (a ∷ b ∷ c ∷ d ∷ [])
 abbrev pub pairs : ℕ → ℕ
 pairs n = lanes (n / 10000 / 100) (n / 10000 % 100) (n % 10000 / 100) (n % 10000 % 100)
 
--- each has at most two digits
-pub record TwoDigits (a b c d : ℕ) : Type 0 where
-  pub first : a < 100
-  pub second : b < 100
-  pub third : c < 100
-  pub fourth : d < 100
+-- x is four numbers so, each of at most two digits
+pub record FourPairs (x : ℕ) : Type 0 where
+  pub first : ℕ
+  pub second : ℕ
+  pub third : ℕ
+  pub fourth : ℕ
+  pub first-small : first < 100
+  pub second-small : second < 100
+  pub third-small : third < 100
+  pub fourth-small : fourth < 100
+  pub side-by-side : x ≡ lanes first second third fourth
 
--- where x is four such numbers, r is their tens
-pub record Tens (x r : ℕ) : Type 0 where
-  pub tens : {a b c d : ℕ} → TwoDigits a b c d → x ≡ lanes a b c d → r ≡ lanes (a / 10) (b / 10) (c / 10) (d / 10)
+-- r is their tens, each where its number was
+abbrev pub Tens : ℕ → ℕ → Type 0
+Tens x r = (p : FourPairs x) → r ≡ lanes (p .first / 10) (p .second / 10) (p .third / 10) (p .fourth / 10)
+
+-- r is their digits, each in an octet
+abbrev pub Digits : ℕ → ℕ → Type 0
+Digits x r = (p : FourPairs x) → r ≡ joined 256 (pair (p .first) ++ pair (p .second) ++ pair (p .third) ++ pair (p .fourth))
 
 -- a whole number in decimal, with a minus sign where it is below zero
 unfoldable pub signedDecimal : ℤ → List ℕ

@@ -2,9 +2,9 @@
 use ground::Whole;
 ghost use mathlib.Core.List.{[], _∷_};
 ghost use mathlib.Core.Path.{_≡_};
-ghost use Prim.Native.Nat.{_+_, _*_, _≤_, _<_};
+ghost use Prim.Native.Nat.{_+_, _*_, _/_, _%_, _≤_, _<_};
 ghost use lib.ListN.{length};
-ghost use Rattle.text.specs.Text.{Puts, decimal, pair, four, eight, joined, pairs, Tens, signedDecimal, hexadecimal, octetText, octetsText};
+ghost use Rattle.text.specs.Text.{Puts, decimal, pair, four, eight, lanes, pairs, FourPairs, Tens, Digits, signedDecimal, hexadecimal, octetText, octetsText};
 
 // Puts one octet at `at`, and answers the place after it.
 pub fn put_byte(out: &mut [u8], at: usize, b: u8) -> usize
@@ -78,7 +78,7 @@ fn put_eight(out: &mut [u8], at: usize, n: u64) -> usize
     requires { ⌜ at + 8 ≤ length (now out) ⌝ }
     ensures { λ r. ⌜ Puts (now (out .entry)) at (eight n) (now (out .exit)) r ⌝ }
 {
-    let text = eight_text(n);
+    let text = digits_of(pairs_of(n));
     out[at] = (text % 256) as u8;
     out[at + 1] = (text / 256 % 256) as u8;
     out[at + 2] = (text / 65536 % 256) as u8;
@@ -86,20 +86,45 @@ fn put_eight(out: &mut [u8], at: usize, n: u64) -> usize
     out[at + 4] = (text / 4294967296 % 256) as u8;
     out[at + 5] = (text / 1099511627776 % 256) as u8;
     out[at + 6] = (text / 281474976710656 % 256) as u8;
-    out[at + 7] = (text / 72057594037927936) as u8;
+    out[at + 7] = (text / 72057594037927936 % 256) as u8;
     at + 8
 }
 
-// Eight digits as one number, the first in its lowest octet.
-fn eight_text(n: u64) -> u64
-    requires { ⌜ n < 100000000 ⌝ }
-    ensures { λ r. ⌜ r ≡ joined 256 (eight n) ⌝ }
+// Puts four digits.
+fn put_four(out: &mut [u8], at: usize, n: u64) -> usize
+    requires { ⌜ n < 10000 ⌝ }
+    requires { ⌜ at + 4 ≤ length (now out) ⌝ }
+    ensures { λ r. ⌜ Puts (now (out .entry)) at (four n) (now (out .exit)) r ⌝ }
 {
-    let pairs = pairs_of(n);
+    let text = digits_of(two_pairs_of(n));
+    out[at] = (text % 256) as u8;
+    out[at + 1] = (text / 256 % 256) as u8;
+    out[at + 2] = (text / 65536 % 256) as u8;
+    out[at + 3] = (text / 16777216 % 256) as u8;
+    at + 4
+}
+
+// The digits of four pairs, each in its octet, the first lowest.
+fn digits_of(pairs: u64) -> u64
+    requires { ⌜ FourPairs pairs ⌝ }
+    ensures { λ r. ⌜ Digits pairs r ⌝ }
+{
     3472328296227680304 + 256 * pairs - 2559 * tens_of(pairs)
 }
 
-// Four pairs of digits, each in sixteen bits, the first lowest.
+// The tens of four pairs, each in its sixteen bits.
+fn tens_of(pairs: u64) -> u64
+    requires { ⌜ FourPairs pairs ⌝ }
+    ensures { λ r. ⌜ Tens pairs r ⌝ }
+{
+    let scaled = pairs * 103;
+    scaled % 65536 / 1024
+        + 65536 * (scaled / 65536 % 65536 / 1024)
+        + 4294967296 * (scaled / 4294967296 % 65536 / 1024)
+        + 281474976710656 * (scaled / 281474976710656 % 65536 / 1024)
+}
+
+// The four pairs of eight digits, each in sixteen bits, the first lowest.
 fn pairs_of(n: u64) -> u64
     requires { ⌜ n < 100000000 ⌝ }
     ensures { λ r. ⌜ r ≡ pairs n ⌝ }
@@ -111,26 +136,12 @@ fn pairs_of(n: u64) -> u64
     65536 * halves - 6553599 * hundreds
 }
 
-// The tens of four pairs, each in its sixteen bits.
-fn tens_of(pairs: u64) -> u64
-    requires { ⌜ pairs < 100 * 281474976710656 ⌝ }
-    ensures { λ r. ⌜ Tens pairs r ⌝ }
-{
-    let scaled = pairs * 103;
-    scaled % 65536 / 1024
-        + 65536 * (scaled / 65536 % 65536 / 1024)
-        + 4294967296 * (scaled / 4294967296 % 65536 / 1024)
-        + 281474976710656 * (scaled / 281474976710656 / 1024)
-}
-
-// Puts four digits.
-fn put_four(out: &mut [u8], at: usize, n: u64) -> usize
+// The two pairs of four digits, and no others.
+fn two_pairs_of(n: u64) -> u64
     requires { ⌜ n < 10000 ⌝ }
-    requires { ⌜ at + 4 ≤ length (now out) ⌝ }
-    ensures { λ r. ⌜ Puts (now (out .entry)) at (four n) (now (out .exit)) r ⌝ }
+    ensures { λ r. ⌜ r ≡ lanes (n / 100) (n % 100) 0 0 ⌝ }
 {
-    let next = put_pair(out, at, n / 100);
-    put_pair(out, next, n % 100)
+    65536 * n - 6553599 * (n * 5243 / 524288)
 }
 
 // Puts two digits.

@@ -1,13 +1,16 @@
 -- The eight octets of one number are set, one after the other.
 use native.Mathlib.Omega.{arith}
 use lib.ListN.{length-set}
-use Rattle.text.proofs.JoinedLaws.{apart-joined, digits-small, octets-put}
+use Rattle.text.proofs.JoinedLaws.{four-pairs, eight-low, octets-put}
 use borrow.Author.Needs.{needs}
 use Rattle.text.proofs.put_eight.Statement.{statement}
 use Rattle.text.proofs.put_eight.Tie as tie
 
-eight-text-requires : tie.Need-eight-text-requires
-eight-text-requires c κs = search needs
+pairs-of-requires : tie.Need-pairs-of-requires
+pairs-of-requires c κs = search needs
+
+digits-of-requires : tie.Need-digits-of-requires
+digits-of-requires c κs = four-pairs (c .before .before .pre .0) (c .pairs-of .ensures)
 
 cast-out : tie.Need-cast-out
 cast-out c = search needs
@@ -85,13 +88,14 @@ same-length : tie.Need-same-length
 same-length c = simp length-set
 
 returns : tie.Need-returns
-returns c = octets-put _ _ _ (apart-joined 256 _ _ _ (c .eight-text .ensures) (digits-small (c .before .before .pre .0)))
+returns c = octets-put _ _ _ (eight-low (c .before .before .before .pre .0) (c .before .pairs-of .ensures) (c .digits-of .ensures))
 
 pub put-eight-spec : {M : Type 1} → statement M
 put-eight-spec =
     tie.close
     (tie.spec
-    eight-text-requires
+    pairs-of-requires
+    digits-of-requires
     cast-out
     slice-write-out
     cast-out-2

@@ -1,11 +1,12 @@
 -- Four products by 103 stand side by side, and each is divided by 1024 where it stands.
-use Rattle.text.proofs.JoinedLaws.{tens-found}
+use native.Mathlib.Omega.{arith}
+use Rattle.text.proofs.JoinedLaws.{pairs-less, tens-found}
 use borrow.Author.Needs.{needs}
 use Rattle.text.proofs.tens_of.Statement.{statement}
 use Rattle.text.proofs.tens_of.Tie as tie
 
 mul-scaled : tie.Need-mul-scaled
-mul-scaled c = search needs
+mul-scaled c = omega (arith, pairs-less (c .pre))
 
 mul-result : tie.Need-mul-result
 mul-result c = search needs
@@ -26,7 +27,7 @@ add-result-3 : tie.Need-add-result-3
 add-result-3 c = search needs
 
 returns : tie.Need-returns
-returns c = record { tens = λ h e. tens-found h _ e }
+returns c = tens-found
 
 pub tens-of-spec : {M : Type 1} → statement M
 tens-of-spec =
