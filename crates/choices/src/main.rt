@@ -4,24 +4,31 @@
 use asking::Asked;
 use cases::Text;
 use requests::Request;
+use streaming::Input;
+ghost use mathlib.Core.Path.{_≡_};
+ghost use lib.ListN.{length};
+ghost use Rattle.streaming.specs.Streaming.{SoundInput};
 
 // Prints an answer for each line, and answers how many there were.
-fn take_lines(line: &mut [u8; 4096], block: &mut [u8; 65536]) -> u64 {
+fn take_lines(block: &mut [u8; 65536]) -> u64 {
     let mut input = streaming::no_input();
     let mut lines: u64 = 0;
     while lines < u64::MAX {
-        input = streaming::next_line(line, block, input);
+        input = streaming::next_line(block, input);
         if !input.ready {
             return lines;
         }
         lines += 1;
-        print_line(lines, line, input.used);
+        print_line(lines, block, input);
     }
     lines
 }
 
-fn print_line(number: u64, line: &[u8], used: usize) {
-    let answered = with_line(cases::numbered(number), line, used);
+fn print_line(number: u64, block: &[u8], input: Input)
+    requires { ⌜ length (now block) ≡ 65536 ⌝ }
+    requires { ⌜ SoundInput input ⌝ }
+{
+    let answered = with_line(cases::numbered(number), block, input);
     print(cases::with_part(answered, b"\n"));
 }
 
@@ -36,11 +43,16 @@ fn print_first(octets: &[u8], n: usize) {
     }
 }
 
-fn with_line(text: Text, line: &[u8], used: usize) -> Text {
-    if used <= line.len() {
-        return with_case(text, &line[0..used]);
+fn with_line(text: Text, block: &[u8], input: Input) -> Text
+    requires { ⌜ length (now block) ≡ 65536 ⌝ }
+    requires { ⌜ SoundInput input ⌝ }
+{
+    if input.long {
+        return text;
     }
-    text
+    let from = input.from;
+    let end = input.end;
+    with_case(text, &block[from..end])
 }
 
 // The text with the answer to a case. A line without two spaces has no request.
@@ -79,9 +91,8 @@ fn with_chosen(buffer: &mut [u8], text: Text, request: Request, list: u16) -> Te
 }
 
 fn main() {
-    let mut line = io::buffer();
     let mut block = io::large_buffer();
-    let lines = take_lines(&mut line, &mut block);
+    let lines = take_lines(&mut block);
     io::write_all(1, b"end ");
     io::print_decimal(1, lines);
     io::write_all(1, b"\n");

@@ -8,24 +8,31 @@ mod velocity_cases;
 
 use cases::Text;
 use forms::Form;
+use streaming::Input;
+ghost use mathlib.Core.Path.{_≡_};
+ghost use lib.ListN.{length};
+ghost use Rattle.streaming.specs.Streaming.{SoundInput};
 
 // Prints an answer for each line, and answers how many there were.
-fn take_lines(line: &mut [u8; 4096], block: &mut [u8; 65536]) -> u64 {
+fn take_lines(block: &mut [u8; 65536]) -> u64 {
     let mut input = streaming::no_input();
     let mut lines: u64 = 0;
     while lines < u64::MAX {
-        input = streaming::next_line(line, block, input);
+        input = streaming::next_line(block, input);
         if !input.ready {
             return lines;
         }
         lines += 1;
-        print_line(lines, line, input.used);
+        print_line(lines, block, input);
     }
     lines
 }
 
-fn print_line(number: u64, line: &[u8], used: usize) {
-    let answered = with_line(cases::numbered(number), line, used);
+fn print_line(number: u64, block: &[u8], input: Input)
+    requires { ⌜ length (now block) ≡ 65536 ⌝ }
+    requires { ⌜ SoundInput input ⌝ }
+{
+    let answered = with_line(cases::numbered(number), block, input);
     print(cases::with_part(answered, b"\n"));
 }
 
@@ -40,12 +47,17 @@ fn print_first(octets: &[u8], n: usize) {
     }
 }
 
-// A line of more octets than are held can't be read.
-fn with_line(text: Text, line: &[u8], used: usize) -> Text {
-    if used <= line.len() {
-        return with_answer(text, &line[0..used]);
+// A line of more octets than the longest can't be read.
+fn with_line(text: Text, block: &[u8], input: Input) -> Text
+    requires { ⌜ length (now block) ≡ 65536 ⌝ }
+    requires { ⌜ SoundInput input ⌝ }
+{
+    if input.long {
+        return cases::with_part(text, b" -");
     }
-    cases::with_part(text, b" -")
+    let from = input.from;
+    let end = input.end;
+    with_answer(text, &block[from..end])
 }
 
 fn with_answer(text: Text, line: &[u8]) -> Text {
@@ -73,9 +85,8 @@ fn with_case(text: Text, name: &[u8], case: &[u8]) -> Text {
 }
 
 fn main() {
-    let mut line = io::buffer();
     let mut block = io::large_buffer();
-    let lines = take_lines(&mut line, &mut block);
+    let lines = take_lines(&mut block);
     io::write_all(1, b"end ");
     io::print_decimal(1, lines);
     io::write_all(1, b"\n");
