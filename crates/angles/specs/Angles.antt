@@ -2,11 +2,11 @@
 use Prim.Native.Nat.{ℕ, _≤_}
 use Rattle.ground.specs.Answers.{numberOf, Said, done, refused, Answer}
 use Rattle.ground.specs.Sets.{LeastOf, GreatestOf, Outside}
-use Rattle.ground.specs.declared.quantities.Millidegrees.{Millidegrees}
-use Rattle.ground.specs.declared.codes.OffsetCode.{OffsetCode}
-use Rattle.ground.specs.declared.codes.IncludedCode.{IncludedCode}
-use Rattle.ground.specs.declared.codes.OrientationCode.{OrientationCode}
-use Rattle.ground.specs.declared.codes.BearingCode.{BearingCode}
+use Rattle.ground.specs.declared.quantity.Millidegrees.{Millidegrees}
+use Rattle.ground.specs.declared.code.OffsetCode.{OffsetCode}
+use Rattle.ground.specs.declared.code.IncludedCode.{IncludedCode}
+use Rattle.ground.specs.declared.code.OrientationCode.{OrientationCode}
+use Rattle.ground.specs.declared.code.BearingCode.{BearingCode}
 use Rattle.angles.specs.declared.OffsetCoded.{OffsetCoded}
 use Rattle.angles.specs.declared.OffsetCoded.the-variants as offset
 use Rattle.angles.specs.declared.IncludedCoded.{IncludedCoded}

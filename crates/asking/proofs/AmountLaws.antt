@@ -1,7 +1,7 @@
 -- What amounts say together, over any fields that say a number or are absent. Assumes nothing.
 use Prim.Native.Nat.{ℕ}
-use Rattle.ground.specs.declared.quantities.Confidence.{Confidence}
-use Rattle.ground.specs.declared.quantities.Confidence.the-variants as confident
+use Rattle.ground.specs.declared.quantity.Confidence.{Confidence}
+use Rattle.ground.specs.declared.quantity.Confidence.the-variants as confident
 use Rattle.requests.specs.declared.Horizontal.{Horizontal}
 use Rattle.requests.specs.declared.Horizontal.the-variants as horizontal
 use Rattle.requests.specs.declared.AltitudeUncertainty.{AltitudeUncertainty}

@@ -8,8 +8,8 @@ use lib.Dec.{eqb}
 use borrow.Author.Tests.{eqb-true, eqb-false}
 use lib.IntN.{ℤ, pos}
 use lib.Signed.{mag}
-use Rattle.ground.specs.declared.quantities.Confidence.{Confidence}
-use Rattle.ground.specs.declared.quantities.Confidence.the-variants as confident
+use Rattle.ground.specs.declared.quantity.Confidence.{Confidence}
+use Rattle.ground.specs.declared.quantity.Confidence.the-variants as confident
 use Rattle.numerals.specs.Numerals.{numeralOf}
 use Rattle.numerals.specs.Widths.{Means, FitsSigned}
 use Rattle.numerals.specs.Fields.{fieldAt, IsAbsent, SaysUnsigned, SaysConfidence}

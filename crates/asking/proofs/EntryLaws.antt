@@ -12,8 +12,8 @@ use lib.Seq.{drop-cons, getD-drop, getD-take, length-take-le}
 use borrow.Author.Tests.{ne-eqb}
 use Rattle.numerals.specs.Marks.{FirstMark, NoMark}
 use Rattle.numerals.specs.Numerals.{isDigit, numeralOf, digitsOf, DigitsFrom}
-use Rattle.numerals.specs.declared.numerals.Digits.{Digits}
-use Rattle.numerals.specs.declared.numerals.Numeral.the-variants.{Number, Nothing}
+use Rattle.numerals.specs.declared.numeral.Digits.{Digits}
+use Rattle.numerals.specs.declared.numeral.Numeral.the-variants.{Number, Nothing}
 use Rattle.numerals.proofs.MarkLaws.{none-then-first}
 use Rattle.numerals.proofs.NumeralLaws.{row-stopped, row-whole}
 use Rattle.text.proofs.OutputLaws.{split}

@@ -6,7 +6,7 @@ use Prim.Native.Nat.{ℕ, _+_, _-_, _≤_, _<_}
 use lib.ListN.{length, getD, take, drop}
 use Rattle.numerals.specs.Marks.{FirstMark}
 use Rattle.numerals.specs.Numerals.{numeralOf}
-use Rattle.numerals.specs.declared.numerals.Numeral.the-variants.{Number, Nothing}
+use Rattle.numerals.specs.declared.numeral.Numeral.the-variants.{Number, Nothing}
 use Rattle.asking.specs.declared.entries.Entry.{Entry}
 use Rattle.numerals.specs.Fields.{fieldsOf, fieldAt, IsAbsent}
 

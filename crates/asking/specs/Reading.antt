@@ -1,8 +1,8 @@
 -- What is read from the fields of a request. Assumes nothing.
 use mathlib.Core.List.{List}
 use Prim.Native.Nat.{ℕ}
-use Rattle.ground.specs.declared.quantities.Confidence.{Confidence}
-use Rattle.ground.specs.declared.quantities.Millimetres.{Millimetres}
+use Rattle.ground.specs.declared.quantity.Confidence.{Confidence}
+use Rattle.ground.specs.declared.quantity.Millimetres.{Millimetres}
 use Rattle.requests.specs.declared.Altitude.{Altitude}
 use Rattle.requests.specs.declared.Horizontal.{Horizontal}
 use Rattle.requests.specs.declared.Horizontal.the-variants as horizontal

@@ -6,8 +6,8 @@ use Prim.Native.Nat.{ℕ, _+_, _*_, _≤_}
 use lib.ListN.{length, drop}
 use Rattle.octets.specs.Bits.{octets}
 use Rattle.octets.specs.Codes.{bitOf}
-use Rattle.layout.specs.declared.velocities.VelocityKind.{VelocityKind}
-use Rattle.layout.specs.declared.velocities.Velocity.{Velocity}
+use Rattle.layout.specs.declared.velocity.VelocityKind.{VelocityKind}
+use Rattle.layout.specs.declared.velocity.Velocity.{Velocity}
 use Rattle.layout.specs.Layout.{Row, row, down, verticalSpeed, motion, velocityRows}
 use Rattle.layout.specs.Rows.{read, lengthOf, message}
 use Rattle.layout.specs.Demands.{InFields}

@@ -1,6 +1,6 @@
 // A velocity's record in the octets of a message of a kind, and stored as octets: document 01, "Octet layouts".
-mod messages;
-mod records;
+mod message;
+mod record;
 
-pub use messages::put;
-pub use records::velocity;
+pub use message::put;
+pub use record::velocity;

@@ -8,9 +8,9 @@ use lib.Seq.{sets}
 use Rattle.ground.specs.declared.refusals.Refusal.{Refusal}
 use Rattle.ground.specs.declared.refusals.Refusal.the-variants.{BufferTooShort}
 use Rattle.ground.specs.declared.refusals.Outcome.the-variants.{Done, Refused}
-use Rattle.layout.specs.declared.shapes.Kind.{Kind}
-use Rattle.layout.specs.declared.shapes.Kind.the-variants.{Nothing, Point, Circle, Ellipse, Polygon, AltitudePoint, AltitudeEllipsoid, Arc}
-use Rattle.layout.specs.declared.shapes.Shape.{Shape}
+use Rattle.layout.specs.declared.shape.Kind.{Kind}
+use Rattle.layout.specs.declared.shape.Kind.the-variants.{Nothing, Point, Circle, Ellipse, Polygon, AltitudePoint, AltitudeEllipsoid, Arc}
+use Rattle.layout.specs.declared.shape.Shape.{Shape}
 use Rattle.layout.specs.Layout.{count}
 use Rattle.layout.specs.Rows.{read}
 use Rattle.layout.specs.Shapes.{upto, blankShape, ReadsShape}
@@ -26,8 +26,8 @@ use Rattle.forming.proofs.ReadLaws.{Starts, of-length, done-read}
 use Rattle.cells.proofs.PutLaws.{no-room, has-room}
 use Rattle.code_cells.specs.Shapes.{singleCells, pointCells, Ended}
 use Rattle.code_cells.proofs.PointLaws.{shape-put}
-use Rattle.layout.specs.declared.velocities.VelocityKind.the-variants as motion
-use Rattle.layout.specs.declared.velocities.Velocity.{Velocity}
+use Rattle.layout.specs.declared.velocity.VelocityKind.the-variants as motion
+use Rattle.layout.specs.declared.velocity.Velocity.{Velocity}
 use Rattle.layout.specs.Velocities.{blankVelocity, ReadsVelocity}
 use Rattle.code_cells.specs.Velocities.{velocityCells}
 use Rattle.cell_reading.specs.Reading.{ReadsInto, ReadsMotionInto}

@@ -5,8 +5,8 @@ use Prim.Native.Nat.{ℕ}
 use lib.ListN.{length, drop}
 use Rattle.ground.specs.Answers.{handed}
 use Rattle.ground.specs.declared.refusals.Outcome.{Outcome}
-use Rattle.layout.specs.declared.shapes.ShapeRead.{ShapeRead}
-use Rattle.layout.specs.declared.velocities.VelocityRead.{VelocityRead}
+use Rattle.layout.specs.declared.shape.ShapeRead.{ShapeRead}
+use Rattle.layout.specs.declared.velocity.VelocityRead.{VelocityRead}
 use Rattle.layout.specs.Shapes.{ReadsShape}
 use Rattle.layout.specs.Velocities.{ReadsVelocity}
 use Rattle.cells.specs.Answers.{givenRoom}

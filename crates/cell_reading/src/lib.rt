@@ -10,7 +10,7 @@ pub use velocity::read_velocity;
 ghost use Prim.Native.Nat.{_≤_};
 ghost use lib.ListN.{length};
 ghost use mathlib.Core.Path.{_≡_};
-ghost use Rattle.layout.specs.declared.shapes.Kind.the-variants.{Polygon};
+ghost use Rattle.layout.specs.declared.shape.Kind.the-variants.{Polygon};
 ghost use Rattle.forming.specs.Forming.{FormAnswer};
 ghost use Rattle.forming.proofs.ReadLaws.{Starts};
 ghost use Rattle.cell_reading.specs.Reading.{ReadsInto};

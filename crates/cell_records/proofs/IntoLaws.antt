@@ -10,10 +10,10 @@ use Rattle.ground.specs.declared.refusals.Refusal.{Refusal}
 use Rattle.ground.specs.declared.refusals.Refusal.the-variants.{OutOfRange, UncertaintyTooLarge, BufferTooShort}
 use Rattle.ground.specs.declared.refusals.Outcome.the-variants.{Done, Refused}
 use Rattle.ground.proofs.AnswerLaws.{not-0}
-use Rattle.layout.specs.declared.shapes.Kind.the-variants.{Nothing}
-use Rattle.layout.specs.declared.shapes.Shape.{Shape}
+use Rattle.layout.specs.declared.shape.Kind.the-variants.{Nothing}
+use Rattle.layout.specs.declared.shape.Shape.{Shape}
 use Rattle.layout.specs.Shapes.{blankShape}
-use Rattle.quantities.specs.declared.shapes.ShapeQuantities.{ShapeQuantities}
+use Rattle.quantities.specs.declared.shape.ShapeQuantities.{ShapeQuantities}
 use Rattle.quantities.specs.Promises.{CodeAnswer, InRange}
 use Rattle.quantities.specs.Shapes.{quantityAt, quantityRows, CodesShape}
 use Rattle.groups.specs.Sizes.{SizesCovered}

@@ -7,16 +7,16 @@ use lib.IntN.{ℤ, pos}
 use lib.ListN.{length, getD, drop}
 use lib.Seq.{sets}
 use Rattle.ground.specs.Answers.{outcomeNumber, handed, done, Unless}
-use Rattle.ground.specs.declared.codes.LatitudeCode.{LatitudeCode}
-use Rattle.ground.specs.declared.codes.LongitudeCode.{LongitudeCode}
+use Rattle.ground.specs.declared.code.LatitudeCode.{LatitudeCode}
+use Rattle.ground.specs.declared.code.LongitudeCode.{LongitudeCode}
 use Rattle.ground.specs.declared.refusals.Outcome.{Outcome}
 use Rattle.fields.specs.Fields.{Coding}
 use Rattle.fields.specs.Fields as field
-use Rattle.layout.specs.declared.shapes.Kind.the-variants as shape
+use Rattle.layout.specs.declared.shape.Kind.the-variants as shape
 use Rattle.layout.specs.Layout.{Row}
 use Rattle.layout.specs.Demands.{Listed, CountSound}
 use Rattle.layout.specs.Shapes.{blankShape, zeroLatitude, zeroLongitude}
-use Rattle.quantities.specs.declared.shapes.ShapeCoded.{ShapeCoded}
+use Rattle.quantities.specs.declared.shape.ShapeCoded.{ShapeCoded}
 use Rattle.quantities.specs.Places.{Quantities}
 use Rattle.quantities.specs.Promises.{CodeAnswer, Given}
 use Rattle.quantities.specs.Shapes.{quantityAt, quantityRows, RecordOf, zeroDegrees}

@@ -10,9 +10,9 @@ use lib.ListN.{getD, set, replicate}
 use lib.Seq.{sets, getD-set-same, getD-set-other}
 use lib.Signed.{mag}
 use Rattle.ground.specs.Answers.{done}
-use Rattle.ground.specs.declared.codes.LatitudeCode.{LatitudeCode}
-use Rattle.ground.specs.declared.codes.LongitudeCode.{LongitudeCode}
-use Rattle.ground.specs.declared.quantities.Nanodegrees.{Nanodegrees}
+use Rattle.ground.specs.declared.code.LatitudeCode.{LatitudeCode}
+use Rattle.ground.specs.declared.code.LongitudeCode.{LongitudeCode}
+use Rattle.ground.specs.declared.quantity.Nanodegrees.{Nanodegrees}
 use Rattle.octets.proofs.ComplementLaws.{complement-back}
 use Rattle.octets.specs.Codes.{complement, fromComplement}
 use Rattle.fields.specs.Fields.{Reporting}

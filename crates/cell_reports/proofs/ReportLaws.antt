@@ -12,12 +12,12 @@ use Rattle.ground.specs.Answers.{numberOf}
 use Rattle.ground.specs.declared.refusals.Outcome.the-variants.{Done, Refused}
 use Rattle.ground.specs.declared.refusals.Refusal.{Refusal}
 use Rattle.ground.specs.declared.refusals.Refusal.the-variants.{BufferTooShort}
-use Rattle.layout.specs.declared.shapes.Shape.{Shape}
+use Rattle.layout.specs.declared.shape.Shape.{Shape}
 use Rattle.layout.specs.Layout.{Field, count, south, latitude, longitude}
 use Rattle.layout.specs.Rows.{lengthOf}
 use Rattle.layout.specs.Demands.{WriteAnswer}
 use Rattle.layout.specs.Shapes.{valueOf}
-use Rattle.quantities.specs.declared.shapes.ShapeQuantities.{ShapeQuantities}
+use Rattle.quantities.specs.declared.shape.ShapeQuantities.{ShapeQuantities}
 use Rattle.quantities.specs.Shapes.{TakesShape, noShape}
 use Rattle.quantities.proofs.HeldLaws.{count-held}
 use Rattle.spoken_shapes.specs.Outlines.{OutlineHeld, OutlineReported}

@@ -6,11 +6,11 @@ use lib.IntN.{ℤ}
 use lib.ListN.{length, drop}
 use lib.Seq.{sets}
 use Rattle.ground.specs.Answers.{outcomeNumber, handed}
-use Rattle.ground.specs.declared.quantities.Nanodegrees.{Nanodegrees}
+use Rattle.ground.specs.declared.quantity.Nanodegrees.{Nanodegrees}
 use Rattle.ground.specs.declared.refusals.Outcome.{Outcome}
 use Rattle.layout.specs.Rows.{lengthOf}
 use Rattle.layout.specs.Demands.{WriteAnswer}
-use Rattle.quantities.specs.declared.shapes.ShapeReported.{ShapeReported}
+use Rattle.quantities.specs.declared.shape.ShapeReported.{ShapeReported}
 use Rattle.quantities.specs.Promises.{Given}
 use Rattle.quantities.specs.Shapes.{QuantitiesOf, noShape}
 use Rattle.spoken_shapes.specs.Points.{LatitudesReported, LongitudesReported}

@@ -1,11 +1,11 @@
 -- A kind that is looked for on the list alone. Assumes nothing.
 use mathlib.Core.Path.{_≡_, sym, subst}
-use Rattle.layout.specs.declared.shapes.Kind.{Kind}
+use Rattle.layout.specs.declared.shape.Kind.{Kind}
 use Rattle.requests.specs.declared.codes.Wanted.{Wanted}
 use Rattle.requests.specs.Codes.{Able, BestKind}
 use Rattle.requests.proofs.FoundLaws.{only-best}
-use Rattle.choice.specs.declared.kinds.KindFound.{KindFound}
-use Rattle.choice.specs.declared.kinds.KindFound.the-variants as found
+use Rattle.choice.specs.declared.kind.KindFound.{KindFound}
+use Rattle.choice.specs.declared.kind.KindFound.the-variants as found
 use Rattle.choice.specs.Kinds.{FindsKind, FindsListed}
 
 -- it is the best where it is the only one that is taken and can hold what is wanted

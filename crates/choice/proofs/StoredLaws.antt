@@ -4,11 +4,11 @@ use mathlib.Core.Path.{_≡_, sym, ap, subst, _∙_}
 use mathlib.Core.List.{List, _∷_, _++_}
 use lib.ListN.{length, drop}
 use lib.Seq.{sets}
-use Rattle.ground.specs.declared.codes.LatitudeCode.{LatitudeCode}
-use Rattle.ground.specs.declared.codes.LongitudeCode.{LongitudeCode}
+use Rattle.ground.specs.declared.code.LatitudeCode.{LatitudeCode}
+use Rattle.ground.specs.declared.code.LongitudeCode.{LongitudeCode}
 use Rattle.octets.specs.Codes.{position}
-use Rattle.layout.specs.declared.shapes.Kind.{Kind}
-use Rattle.layout.specs.declared.shapes.Kind.the-variants.{Polygon}
+use Rattle.layout.specs.declared.shape.Kind.{Kind}
+use Rattle.layout.specs.declared.shape.Kind.the-variants.{Polygon}
 use Rattle.layout.specs.Layout.{Row, shapeRows, typeOf}
 use Rattle.layout.specs.Rows.{lengthOf}
 use Rattle.layout.specs.Shapes.{rowsOf, valueOf}

@@ -5,7 +5,7 @@ use mathlib.Core.List.{List, _++_}
 use native.Mathlib.Omega.{arith}
 use lib.ListN.{length, drop}
 use Rattle.ground.specs.Answers.{Unless, unmet, met}
-use Rattle.layout.specs.declared.shapes.Kind.{Kind}
+use Rattle.layout.specs.declared.shape.Kind.{Kind}
 use Rattle.layout.specs.Layout.{shapeRows}
 use Rattle.layout.specs.Rows.{lengthOf}
 use Rattle.requests.specs.declared.Request.{Request}

@@ -6,7 +6,7 @@ use lib.ListN.{length, drop}
 use Rattle.ground.specs.declared.refusals.Refusal.{Refusal}
 use Rattle.ground.specs.declared.refusals.Outcome.the-variants.{Refused}
 use Rattle.layout.specs.declared.Written.{Written}
-use Rattle.layout.specs.declared.shapes.Kind.{Kind}
+use Rattle.layout.specs.declared.shape.Kind.{Kind}
 use Rattle.layout.specs.Layout.{shapeRows}
 use Rattle.layout.specs.Rows.{lengthOf}
 use Rattle.requests.specs.declared.codes.Wanted.{Wanted}

@@ -1,11 +1,11 @@
 // The choice of shape for one point: document 01, "When a message holds a request". The request's codes are found once; which
 // kind is best is read off them, and its message is stored.
-mod kinds;
-mod messages;
+mod kind;
+mod message;
 
 use ground::Outcome;
 use ground::Refusal;
-use kinds::KindFound;
+use kind::KindFound;
 use layout::Written;
 use requests::Request;
 use requests::Wanted;
@@ -32,14 +32,14 @@ fn write_best(out: &mut [u8], codes: Wanted, list: u16) -> Written
     requires { ⌜ Tame codes ⌝ }
     ensures { λ r. ⌜ WritesBest codes (Listed list) (now (out .entry)) (outcomeNumber (r .outcome)) (r .length) (now (out .exit)) ⌝ }
 {
-    let KindFound::Kind(kind) = kinds::best_kind(codes, list) else {
+    let KindFound::Kind(kind) = kind::best_kind(codes, list) else {
         return refused(Refusal::NoneHolds);
     };
     let length = layout::message_length(kind, 0);
     if out.len() < length {
         return refused(Refusal::BufferTooShort);
     }
-    messages::put(out, kind, codes);
+    message::put(out, kind, codes);
     Written {
         outcome: Outcome::Done,
         length,

@@ -7,12 +7,12 @@ use native.Mathlib.Numerals.{add-one}
 use native.Mathlib.Omega.{arith}
 use lib.ListN.{length, length-append, getD, set, drop, replicate, replicate-append-replicate}
 use lib.Seq.{sets, sets-eq}
-use Rattle.ground.specs.declared.codes.LatitudeCode.{LatitudeCode}
-use Rattle.ground.specs.declared.codes.LongitudeCode.{LongitudeCode}
+use Rattle.ground.specs.declared.code.LatitudeCode.{LatitudeCode}
+use Rattle.ground.specs.declared.code.LongitudeCode.{LongitudeCode}
 use Rattle.layout.specs.Shapes.{zeroLatitude, zeroLongitude}
 use Rattle.ground.proofs.ListLaws.{sets-append}
 use Rattle.cells.proofs.CopyLaws.{sets-after}
-use Rattle.layout.specs.declared.shapes.Shape.{Shape}
+use Rattle.layout.specs.declared.shape.Shape.{Shape}
 use Rattle.code_cells.specs.Shapes.{singleCells, pointCell, pointCells, shapeCells, Ended}
 
 module _ (latitudes : List LatitudeCode) (longitudes : List LongitudeCode) where

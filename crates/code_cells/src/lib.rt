@@ -1,13 +1,13 @@
 // A record's codes in cells, and in specs/ the record that cells say.
-mod shapes;
-mod velocities;
+mod shape;
+mod velocity;
 
-pub use shapes::cells_of;
-pub use shapes::clear_from;
-pub use shapes::kind_in;
-pub use shapes::outline_in;
-pub use shapes::put_point;
-pub use shapes::put_singles;
-pub use velocities::put_velocity;
-pub use velocities::velocity_in;
-pub use velocities::velocity_is_whole;
+pub use shape::cells_of;
+pub use shape::clear_from;
+pub use shape::kind_in;
+pub use shape::outline_in;
+pub use shape::put_point;
+pub use shape::put_singles;
+pub use velocity::put_velocity;
+pub use velocity::velocity_in;
+pub use velocity::velocity_is_whole;

@@ -1,5 +1,5 @@
 // The message of the record that a shape's cells say, stored as octets: document 01, "Octet layouts".
-mod messages;
+mod message;
 mod points;
 
 use ground::Outcome;
@@ -42,7 +42,7 @@ fn write_taken(out: &mut [u8], codes: &[u32], kind: Kind) -> Written
             length: 0,
         };
     }
-    messages::put(out, codes, kind);
+    message::put(out, codes, kind);
     Written {
         outcome: Outcome::Done,
         length,

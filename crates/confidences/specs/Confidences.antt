@@ -3,9 +3,9 @@ use mathlib.Core.Path.{_≡_}
 use Prim.Native.Nat.{ℕ, _≤_, _<_}
 use Rattle.ground.specs.Answers.{numberOf, Said, done, refused, Answer}
 use Rattle.ground.specs.Sets.{Outside}
-use Rattle.ground.specs.declared.quantities.Confidence.{Confidence}
-use Rattle.ground.specs.declared.quantities.Confidence.the-variants.{PerCent, Missing}
-use Rattle.ground.specs.declared.codes.ConfidenceCode.{ConfidenceCode}
+use Rattle.ground.specs.declared.quantity.Confidence.{Confidence}
+use Rattle.ground.specs.declared.quantity.Confidence.the-variants.{PerCent, Missing}
+use Rattle.ground.specs.declared.code.ConfidenceCode.{ConfidenceCode}
 use Rattle.confidences.specs.declared.ConfidenceCoded.{ConfidenceCoded}
 use Rattle.confidences.specs.declared.ConfidenceCoded.the-variants as coded
 use Rattle.confidences.specs.declared.ConfidenceReported.{ConfidenceReported}

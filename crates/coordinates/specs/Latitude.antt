@@ -3,8 +3,8 @@ use Prim.Native.Nat.{ℕ, _+_, _*_, _^_, _≤_, _<_}
 use lib.IntN.{ℤ, natAbs}
 use Rattle.ground.specs.Answers.{numberOf, Said, done, refused, Answer}
 use Rattle.ground.specs.Sets.{OfSign, NearestOf}
-use Rattle.ground.specs.declared.quantities.Nanodegrees.{Nanodegrees}
-use Rattle.ground.specs.declared.codes.LatitudeCode.{LatitudeCode}
+use Rattle.ground.specs.declared.quantity.Nanodegrees.{Nanodegrees}
+use Rattle.ground.specs.declared.code.LatitudeCode.{LatitudeCode}
 use Rattle.coordinates.specs.declared.latitudes.LatitudeCoded.{LatitudeCoded}
 use Rattle.coordinates.specs.declared.latitudes.LatitudeCoded.the-variants as coded
 use Rattle.coordinates.specs.declared.CoordinateReported.{CoordinateReported}

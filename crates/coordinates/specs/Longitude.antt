@@ -6,8 +6,8 @@ use lib.IntN.{ℤ, pos, negsuc, natAbs, _+ℤ_, _*ℤ_}
 use lib.Signed.{mag, _≤ℤ_, _<ℤ_}
 use Rattle.ground.specs.Answers.{numberOf, Said, done, refused, Answer}
 use Rattle.ground.specs.Sets.{LowestOf}
-use Rattle.ground.specs.declared.quantities.Nanodegrees.{Nanodegrees}
-use Rattle.ground.specs.declared.codes.LongitudeCode.{LongitudeCode}
+use Rattle.ground.specs.declared.quantity.Nanodegrees.{Nanodegrees}
+use Rattle.ground.specs.declared.code.LongitudeCode.{LongitudeCode}
 use Rattle.coordinates.specs.declared.longitudes.LongitudeCoded.{LongitudeCoded}
 use Rattle.coordinates.specs.declared.longitudes.LongitudeCoded.the-variants.{Code, Refused}
 use Rattle.coordinates.specs.declared.CoordinateReported.{CoordinateReported}

@@ -4,9 +4,9 @@ use mathlib.Core.List.{List, _++_, append-assoc, append-nil}
 use Prim.Native.Nat.{ℕ}
 use native.Mathlib.Omega.{arith}
 use Rattle.fields.specs.Fields as field
-use Rattle.layout.specs.declared.velocities.VelocityKind.{VelocityKind}
-use Rattle.layout.specs.declared.velocities.VelocityKind.the-variants as velocity
-use Rattle.layout.specs.declared.velocities.Velocity.{Velocity}
+use Rattle.layout.specs.declared.velocity.VelocityKind.{VelocityKind}
+use Rattle.layout.specs.declared.velocity.VelocityKind.the-variants as velocity
+use Rattle.layout.specs.declared.velocity.Velocity.{Velocity}
 use Rattle.layout.specs.Layout.{velocityRows, velocityTypeOf}
 use Rattle.layout.specs.Demands.{Listed}
 use Rattle.quantities.specs.Velocities.{velocityCodeAt}

@@ -6,7 +6,7 @@ use native.Mathlib.Omega.{arith}
 use lib.ListN.{length, drop}
 use Rattle.ground.proofs.AnswerLaws.{outcome-one}
 use Rattle.layout.specs.declared.Written.{Written}
-use Rattle.layout.specs.declared.shapes.Kind.{Kind}
+use Rattle.layout.specs.declared.shape.Kind.{Kind}
 use Rattle.requests.specs.declared.Request.{Request}
 use Rattle.requests.specs.Ranges.{InRange, Covered}
 use Rattle.requests.specs.Choice.{Best, Refuses, out-of-range, too-uncertain, none-holds, Chosen, refuses, too-short, writes, Chooses}

@@ -3,7 +3,7 @@ use Prim.Native.Nat.{ℕ}
 use mathlib.Core.Path.{_≡_, refl, sym, ap, _∙_}
 use Rattle.ground.specs.Answers.{numberOf, refusalOf, Unless, unmet, met}
 use Rattle.ground.proofs.AnswerLaws.{refusal-back, told-by}
-use Rattle.ground.specs.declared.codes.UncertaintyCode.{UncertaintyCode}
+use Rattle.ground.specs.declared.code.UncertaintyCode.{UncertaintyCode}
 use Rattle.fields.specs.Fields as field
 use Rattle.requests.specs.declared.Request.{Request}
 use Rattle.requests.specs.declared.Altitude.{Altitude}

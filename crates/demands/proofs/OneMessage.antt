@@ -8,19 +8,19 @@ use lib.Dec.{eqb}
 use lib.ListN.{length}
 use borrow.Author.Tests.{lt-ltb}
 use Rattle.ground.specs.Answers.{done}
-use Rattle.ground.specs.declared.quantities.Confidence.{Confidence}
-use Rattle.ground.specs.declared.codes.AltitudeCode.{AltitudeCode}
-use Rattle.ground.specs.declared.codes.AltitudeUncertaintyCode.{AltitudeUncertaintyCode}
-use Rattle.ground.specs.declared.codes.ConfidenceCode.{ConfidenceCode}
-use Rattle.ground.specs.declared.codes.LatitudeCode.{LatitudeCode}
-use Rattle.ground.specs.declared.codes.LongitudeCode.{LongitudeCode}
-use Rattle.ground.specs.declared.codes.OrientationCode.{OrientationCode}
-use Rattle.ground.specs.declared.codes.UncertaintyCode.{UncertaintyCode}
+use Rattle.ground.specs.declared.quantity.Confidence.{Confidence}
+use Rattle.ground.specs.declared.code.AltitudeCode.{AltitudeCode}
+use Rattle.ground.specs.declared.code.AltitudeUncertaintyCode.{AltitudeUncertaintyCode}
+use Rattle.ground.specs.declared.code.ConfidenceCode.{ConfidenceCode}
+use Rattle.ground.specs.declared.code.LatitudeCode.{LatitudeCode}
+use Rattle.ground.specs.declared.code.LongitudeCode.{LongitudeCode}
+use Rattle.ground.specs.declared.code.OrientationCode.{OrientationCode}
+use Rattle.ground.specs.declared.code.UncertaintyCode.{UncertaintyCode}
 use Rattle.octets.specs.Codes.{bitOf, complement}
 use Rattle.fields.specs.Fields as field
-use Rattle.layout.specs.declared.shapes.Kind.{Kind}
-use Rattle.layout.specs.declared.shapes.Kind.the-variants as kind
-use Rattle.layout.specs.declared.shapes.Shape.{Shape}
+use Rattle.layout.specs.declared.shape.Kind.{Kind}
+use Rattle.layout.specs.declared.shape.Kind.the-variants as kind
+use Rattle.layout.specs.declared.shape.Shape.{Shape}
 use Rattle.layout.specs.Layout.{
   Field,
   typeNumber,

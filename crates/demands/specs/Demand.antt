@@ -3,7 +3,7 @@ use Prim.Native.Nat.{ℕ, _≤_, _<_}
 use mathlib.Core.Path.{_≡_}
 use mathlib.Core.List.{List, _++_}
 use lib.ListN.{length, drop}
-use Rattle.layout.specs.declared.shapes.Kind.{Kind}
+use Rattle.layout.specs.declared.shape.Kind.{Kind}
 use Rattle.requests.specs.declared.Request.{Request}
 use Rattle.requests.specs.Ranges.{InRange, Covered}
 use Rattle.requests.specs.Choice.{Candidate, Best}

@@ -11,16 +11,16 @@ use Rattle.ground.specs.declared.refusals.Outcome.{Outcome}
 use Rattle.ground.specs.declared.refusals.Outcome.the-variants.{Done, Refused}
 use Rattle.ground.proofs.AnswerLaws.{not-0}
 use Rattle.layout.specs.declared.Written.{Written}
-use Rattle.layout.specs.declared.shapes.Kind.{Kind}
-use Rattle.layout.specs.declared.velocities.Velocity.{Velocity}
-use Rattle.layout.specs.declared.velocities.VelocityKind.{VelocityKind}
-use Rattle.layout.specs.declared.velocities.VelocityKind.the-variants as velocity
+use Rattle.layout.specs.declared.shape.Kind.{Kind}
+use Rattle.layout.specs.declared.velocity.Velocity.{Velocity}
+use Rattle.layout.specs.declared.velocity.VelocityKind.{VelocityKind}
+use Rattle.layout.specs.declared.velocity.VelocityKind.the-variants as velocity
 use Rattle.layout.specs.Layout.{Field, Row, velocityRows}
 use Rattle.layout.specs.Velocities.{blankVelocity}
 use Rattle.layout.specs.Rows.{lengthOf}
 use Rattle.layout.specs.Demands.{Listed, CountSound, WriteAnswer, Writes}
-use Rattle.quantities.specs.declared.velocities.VelocityReported.{VelocityReported}
-use Rattle.quantities.specs.declared.velocities.VelocityCoded.{VelocityCoded}
+use Rattle.quantities.specs.declared.velocity.VelocityReported.{VelocityReported}
+use Rattle.quantities.specs.declared.velocity.VelocityCoded.{VelocityCoded}
 use Rattle.quantities.specs.Places.{Quantities}
 use Rattle.quantities.specs.Promises.{CodeAnswer, Given}
 use Rattle.quantities.specs.Velocities.{velocityQuantityAt, VelocityQuantitiesOf, VelocityRecordOf, noVelocity, ReportsVelocity, CodesVelocity}

@@ -6,19 +6,19 @@ use lib.IntN.{ℤ, negsuc}
 use Rattle.ground.specs.Answers.{outcomeNumber, Unless, Else0}
 use Rattle.ground.specs.declared.told.Told.{Told}
 use Rattle.layout.specs.declared.Written.{Written}
-use Rattle.layout.specs.declared.shapes.ShapeRead.{ShapeRead}
-use Rattle.layout.specs.declared.velocities.VelocityKind.{VelocityKind}
-use Rattle.layout.specs.declared.velocities.VelocityKind.the-variants as velocity
-use Rattle.layout.specs.declared.velocities.VelocityRead.{VelocityRead}
+use Rattle.layout.specs.declared.shape.ShapeRead.{ShapeRead}
+use Rattle.layout.specs.declared.velocity.VelocityKind.{VelocityKind}
+use Rattle.layout.specs.declared.velocity.VelocityKind.the-variants as velocity
+use Rattle.layout.specs.declared.velocity.VelocityRead.{VelocityRead}
 use Rattle.layout.specs.Layout.{Field, Row, velocityRows}
 use Rattle.layout.specs.Rows.{lengthOf}
 use Rattle.layout.specs.Demands.{Listed, WriteAnswer, Writes}
 use Rattle.layout.specs.Shapes.{ReadsShape}
 use Rattle.layout.specs.Velocities.{ReadsVelocity, blankVelocity}
-use Rattle.quantities.specs.declared.shapes.ShapeReported.{ShapeReported}
-use Rattle.quantities.specs.declared.shapes.ShapeCoded.{ShapeCoded}
-use Rattle.quantities.specs.declared.velocities.VelocityReported.{VelocityReported}
-use Rattle.quantities.specs.declared.velocities.VelocityCoded.{VelocityCoded}
+use Rattle.quantities.specs.declared.shape.ShapeReported.{ShapeReported}
+use Rattle.quantities.specs.declared.shape.ShapeCoded.{ShapeCoded}
+use Rattle.quantities.specs.declared.velocity.VelocityReported.{VelocityReported}
+use Rattle.quantities.specs.declared.velocity.VelocityCoded.{VelocityCoded}
 use Rattle.quantities.specs.Promises.{Given}
 use Rattle.quantities.specs.Velocities.{velocityQuantityAt, VelocityQuantitiesOf, VelocityRecordOf, noVelocity}
 use Rattle.requests.specs.declared.Request.{Request}

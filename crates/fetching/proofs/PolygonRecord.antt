@@ -6,7 +6,7 @@ use native.Mathlib.Omega.{arith}
 use lib.ListN.{replicate}
 use Rattle.octets.specs.Bits.{bits}
 use Rattle.octets.specs.Codes.{signOf, fromComplement, latitudeIn, longitudeIn}
-use Rattle.layout.specs.declared.shapes.Kind.the-variants.{Polygon}
+use Rattle.layout.specs.declared.shape.Kind.the-variants.{Polygon}
 use Rattle.layout.specs.Layout.{Field, south, latitude, longitude, depth, altitude, uncertainty, semiMajor, semiMinor, orientation, altitudeUncertainty, confidence, innerRadius, offset, included}
 use Rattle.layout.specs.Rows.{tag, read}
 use Rattle.layout.specs.Shapes.{upto, latitudeOf, longitudeOf, zeroLatitude, zeroLongitude}

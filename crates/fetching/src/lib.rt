@@ -14,7 +14,7 @@ ghost use mathlib.Core.Path.{_≡_};
 ghost use Prim.Native.Nat.{_≤_};
 ghost use lib.ListN.{length};
 ghost use Rattle.octets.specs.Bits.{bits};
-ghost use Rattle.layout.specs.declared.shapes.Kind.the-variants.{Circle, Ellipse, AltitudeEllipsoid, Arc};
+ghost use Rattle.layout.specs.declared.shape.Kind.the-variants.{Circle, Ellipse, AltitudeEllipsoid, Arc};
 ghost use Rattle.fetching.specs.Fetching.{OfLength, recordOf, startOf, levelOf};
 
 // n is a polygon's count.

@@ -8,10 +8,10 @@ use lib.ListN.{length}
 use Rattle.ground.specs.declared.refusals.Outcome.{Outcome}
 use Rattle.ground.specs.declared.refusals.Outcome.the-variants as outcome
 use Rattle.ground.specs.declared.refusals.Refusal.the-variants.{UnknownType, WrongLength, OutOfRange}
-use Rattle.ground.specs.declared.quantities.UncertaintySpeed.{UncertaintySpeed}
-use Rattle.ground.specs.declared.quantities.UncertaintySpeed.the-variants as uncertain
-use Rattle.ground.specs.declared.quantities.Confidence.{Confidence}
-use Rattle.ground.specs.declared.quantities.Confidence.the-variants as confident
+use Rattle.ground.specs.declared.quantity.UncertaintySpeed.{UncertaintySpeed}
+use Rattle.ground.specs.declared.quantity.UncertaintySpeed.the-variants as uncertain
+use Rattle.ground.specs.declared.quantity.Confidence.{Confidence}
+use Rattle.ground.specs.declared.quantity.Confidence.the-variants as confident
 use Rattle.ground.specs.declared.told.Told.{Told}
 use Rattle.ground.specs.declared.told.Told.the-variants as told
 use Rattle.octets.specs.Codes.{bitOf, signOf}

@@ -1,8 +1,8 @@
 // A single quantity's code and a single code's quantity, by the number of its field, and their cells.
-mod codes;
-mod quantities;
+mod code;
+mod quantity;
 
-pub use codes::coded;
-pub use codes::put_code;
-pub use quantities::put_quantity;
-pub use quantities::reported;
+pub use code::coded;
+pub use code::put_code;
+pub use quantity::put_quantity;
+pub use quantity::reported;

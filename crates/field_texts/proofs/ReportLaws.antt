@@ -30,8 +30,8 @@ use Rattle.numerals.specs.Numerals.{numeralOf}
 use Rattle.numerals.specs.Widths.{valueOf, Means, FitsSigned, IsBelow, AsSize}
 use Rattle.numerals.specs.Marks.{FirstMark}
 use Rattle.numerals.specs.Fields.{fieldsOf}
-use Rattle.numerals.specs.declared.numerals.Numeral.{Numeral}
-use Rattle.numerals.specs.declared.numerals.Numeral.the-variants.{Number, Nothing}
+use Rattle.numerals.specs.declared.numeral.Numeral.{Numeral}
+use Rattle.numerals.specs.declared.numeral.Numeral.the-variants.{Number, Nothing}
 use Rattle.numerals.specs.declared.widths.Size.{Size}
 use Rattle.numerals.specs.declared.widths.Size.the-variants as size
 use Rattle.numerals.proofs.WidthLaws.{no-number, not-below}

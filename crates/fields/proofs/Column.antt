@@ -7,14 +7,14 @@ use native.Mathlib.Omega.{arith}
 use lib.IntN.{ℤ, pos, negsuc}
 use Rattle.ground.specs.Answers.{done}
 use Rattle.ground.specs.Sets.{LowestOf, GreatestCovered}
-use Rattle.ground.specs.declared.quantities.UncertaintySpeed.the-variants as uncertain
-use Rattle.ground.specs.declared.quantities.Confidence.the-variants as confident
+use Rattle.ground.specs.declared.quantity.UncertaintySpeed.the-variants as uncertain
+use Rattle.ground.specs.declared.quantity.Confidence.the-variants as confident
 use Rattle.ground.specs.Signs.{signed}
-use Rattle.ground.specs.declared.codes.LatitudeCode.{LatitudeCode}
-use Rattle.ground.specs.declared.quantities.Nanodegrees.{Nanodegrees}
-use Rattle.ground.specs.declared.quantities.Millidegrees.{Millidegrees}
-use Rattle.ground.specs.declared.quantities.Millimetres.{Millimetres}
-use Rattle.ground.specs.declared.quantities.SignedMillimetres.{SignedMillimetres}
+use Rattle.ground.specs.declared.code.LatitudeCode.{LatitudeCode}
+use Rattle.ground.specs.declared.quantity.Nanodegrees.{Nanodegrees}
+use Rattle.ground.specs.declared.quantity.Millidegrees.{Millidegrees}
+use Rattle.ground.specs.declared.quantity.Millimetres.{Millimetres}
+use Rattle.ground.specs.declared.quantity.SignedMillimetres.{SignedMillimetres}
 use Rattle.coordinates.specs.Longitude.{LongitudeSet}
 use Rattle.fields.specs.Fields.{Field, latitude, longitude, uncertainty, altitudeUncertainty, altitude, innerRadius, offset, included, orientation, bearing, horizontalSpeed, verticalSpeed, uncertaintySpeed, confidence, CodeOf, QuantityOf, Reporting}
 use Rattle.fields.specs.Reported.{WholePart, Column}

@@ -5,7 +5,7 @@ use native.Mathlib.Omega.{arith}
 use Rattle.ground.specs.Answers.{Said, done}
 use Rattle.ground.specs.Sets.{OfSign}
 use Rattle.ground.specs.Steps.{SpeedStep}
-use Rattle.ground.specs.declared.quantities.UncertaintySpeed.the-variants as uncertain
+use Rattle.ground.specs.declared.quantity.UncertaintySpeed.the-variants as uncertain
 use Rattle.radii.specs.Covering.{Covers}
 use Rattle.radii.proofs.CoverLaws.{covers-up, covers-next}
 use Rattle.speeds.specs.Speeds.{SpeedCovers}

@@ -7,14 +7,14 @@ use lib.IntN.{ℤ}
 use Rattle.ground.specs.Answers.{Said}
 use Rattle.ground.proofs.AnswerLaws.{one-answer}
 use Rattle.ground.specs.Steps.{OpenStep, SpeedStep}
-use Rattle.ground.specs.declared.codes.UncertaintySpeedCode.{UncertaintySpeedCode}
-use Rattle.ground.specs.declared.codes.ConfidenceCode.{ConfidenceCode}
-use Rattle.ground.specs.declared.quantities.UncertaintySpeed.{UncertaintySpeed}
-use Rattle.ground.specs.declared.quantities.UncertaintySpeed.the-variants as uncertain
-use Rattle.ground.specs.declared.quantities.UncertaintySpeed.the-variants.{Speed}
-use Rattle.ground.specs.declared.quantities.Confidence.{Confidence}
-use Rattle.ground.specs.declared.quantities.Confidence.the-variants as confident
-use Rattle.ground.specs.declared.quantities.Confidence.the-variants.{PerCent}
+use Rattle.ground.specs.declared.code.UncertaintySpeedCode.{UncertaintySpeedCode}
+use Rattle.ground.specs.declared.code.ConfidenceCode.{ConfidenceCode}
+use Rattle.ground.specs.declared.quantity.UncertaintySpeed.{UncertaintySpeed}
+use Rattle.ground.specs.declared.quantity.UncertaintySpeed.the-variants as uncertain
+use Rattle.ground.specs.declared.quantity.UncertaintySpeed.the-variants.{Speed}
+use Rattle.ground.specs.declared.quantity.Confidence.{Confidence}
+use Rattle.ground.specs.declared.quantity.Confidence.the-variants as confident
+use Rattle.ground.specs.declared.quantity.Confidence.the-variants.{PerCent}
 use Rattle.speeds.specs.Speeds.{UncertaintySpeedReporting}
 use Rattle.confidences.specs.Confidences.{ConfidenceSet}
 use Rattle.radii.proofs.CoverLaws.{covers-up}

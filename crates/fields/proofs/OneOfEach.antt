@@ -19,7 +19,7 @@ use Rattle.radii.specs.declared.RadiusReported.the-variants as radius-reported
 use Rattle.lengths.specs.declared.AltitudeReported.the-variants as height-reported
 use Rattle.angles.specs.declared.AngleReported.the-variants as angle-reported
 use Rattle.confidences.specs.declared.ConfidenceReported.the-variants as sure-reported
-use Rattle.ground.specs.declared.quantities.UncertaintySpeed.the-variants as uncertain
+use Rattle.ground.specs.declared.quantity.UncertaintySpeed.the-variants as uncertain
 use Rattle.fields.specs.Fields.{Field, latitude, longitude, uncertainty, altitudeUncertainty, altitude, innerRadius, offset, included, orientation, bearing, horizontalSpeed, verticalSpeed, uncertaintySpeed, confidence, CodeOf, QuantityOf, Coding, Reporting, CodedOf, saidCode, ReportedOf, saidQuantity}
 use Rattle.fields.proofs.OneAnswer.{coding-one, reporting-one}
 

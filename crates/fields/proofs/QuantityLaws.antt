@@ -9,10 +9,10 @@ use lib.Signed.{mag}
 use borrow.Author.Tests.{eqb-true, eqb-false}
 use Rattle.ground.specs.Answers.{done}
 use Rattle.ground.specs.Sets.{LowestOf}
-use Rattle.ground.specs.declared.codes.UncertaintySpeedCode.{UncertaintySpeedCode}
-use Rattle.ground.specs.declared.codes.ConfidenceCode.{ConfidenceCode}
-use Rattle.ground.specs.declared.quantities.UncertaintySpeed.the-variants as uncertain
-use Rattle.ground.specs.declared.quantities.Confidence.the-variants as confident
+use Rattle.ground.specs.declared.code.UncertaintySpeedCode.{UncertaintySpeedCode}
+use Rattle.ground.specs.declared.code.ConfidenceCode.{ConfidenceCode}
+use Rattle.ground.specs.declared.quantity.UncertaintySpeed.the-variants as uncertain
+use Rattle.ground.specs.declared.quantity.Confidence.the-variants as confident
 use Rattle.ground.proofs.AnswerLaws.{said-one}
 use Rattle.ground.proofs.SetLaws.{nearest-signed}
 use Rattle.coordinates.specs.Halves.{up, down}

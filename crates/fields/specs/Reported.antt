@@ -5,8 +5,8 @@ use lib.IntN.{ℤ, pos, negsuc}
 use mathlib.Core.Bool.{Bool, true}
 use Rattle.ground.specs.Signs.{signed}
 use Rattle.ground.specs.Sets.{NearestOf, LowestOf}
-use Rattle.ground.specs.declared.quantities.UncertaintySpeed.the-variants as uncertain
-use Rattle.ground.specs.declared.quantities.Confidence.the-variants as confident
+use Rattle.ground.specs.declared.quantity.UncertaintySpeed.the-variants as uncertain
+use Rattle.ground.specs.declared.quantity.Confidence.the-variants as confident
 use Rattle.coordinates.specs.Latitude.{LatitudeSet}
 use Rattle.coordinates.specs.Longitude.{LongitudeSet}
 use Rattle.radii.specs.Radii.{RadiusCovers, HeightCovers}

@@ -3,8 +3,8 @@ use Prim.Native.Nat.{ℕ, _+_, _*_, _<_, _≤_}
 use mathlib.Core.Path.{_≡_, sym, subst}
 use native.Mathlib.Omega.{arith}
 use Rattle.ground.specs.Answers.{unmet, met}
-use Rattle.layout.specs.declared.shapes.Kind.{Kind}
-use Rattle.layout.specs.declared.shapes.Kind.the-variants.{Nothing, Polygon}
+use Rattle.layout.specs.declared.shape.Kind.{Kind}
+use Rattle.layout.specs.declared.shape.Kind.the-variants.{Nothing, Polygon}
 use Rattle.layout.specs.Layout.{count, shapeRows}
 use Rattle.layout.specs.Rows.{widthOf, lengthOf}
 use Rattle.layout.specs.Demands.{Listed}

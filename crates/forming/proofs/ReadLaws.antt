@@ -11,10 +11,10 @@ use Rattle.ground.specs.declared.refusals.Outcome.the-variants.{Done, Refused}
 use Rattle.ground.proofs.AnswerLaws.{not-0, when-done, unless-as}
 use Rattle.octets.specs.Bits.{bits}
 use Rattle.octets.proofs.BitLaws.{bits-high, bits-low}
-use Rattle.layout.specs.declared.shapes.Kind.{Kind}
-use Rattle.layout.specs.declared.shapes.Kind.the-variants.{Nothing, Point, Circle, Ellipse, Polygon, AltitudePoint, AltitudeEllipsoid, Arc}
-use Rattle.layout.specs.declared.shapes.Shape.{Shape}
-use Rattle.layout.specs.declared.shapes.ShapeRead.{ShapeRead}
+use Rattle.layout.specs.declared.shape.Kind.{Kind}
+use Rattle.layout.specs.declared.shape.Kind.the-variants.{Nothing, Point, Circle, Ellipse, Polygon, AltitudePoint, AltitudeEllipsoid, Arc}
+use Rattle.layout.specs.declared.shape.Shape.{Shape}
+use Rattle.layout.specs.declared.shape.ShapeRead.{ShapeRead}
 use Rattle.layout.specs.Layout.{Field, Row, count, orientation, offset, included, bearing, confidence, shapeRows}
 use Rattle.layout.specs.Rows.{widthOf, read}
 use Rattle.layout.specs.Demands.{Used, CountSound, AnglesSound, ConfidenceSound, ReadAnswer, CodesAnswer}

@@ -4,9 +4,9 @@ use Prim.Native.Nat.{ℕ}
 use Rattle.ground.specs.Answers.{Unless, Else0}
 use Rattle.ground.specs.declared.refusals.Refusal.{Refusal}
 use Rattle.ground.specs.declared.refusals.Outcome.the-variants.{Refused}
-use Rattle.layout.specs.declared.shapes.Kind.{Kind}
-use Rattle.layout.specs.declared.shapes.Kind.the-variants.{Nothing}
-use Rattle.layout.specs.declared.shapes.ShapeRead.{ShapeRead}
+use Rattle.layout.specs.declared.shape.Kind.{Kind}
+use Rattle.layout.specs.declared.shape.Kind.the-variants.{Nothing}
+use Rattle.layout.specs.declared.shape.ShapeRead.{ShapeRead}
 use Rattle.layout.specs.Layout.{shapeRows}
 use Rattle.layout.specs.Rows.{lengthOf}
 use Rattle.layout.specs.Demands.{Listed, CountSound}

@@ -4,7 +4,7 @@ use ground::Refusal;
 use layout::Kind;
 ghost use Prim.Native.Nat.{_<_};
 ghost use Rattle.ground.specs.Answers.{outcomeNumber};
-ghost use Rattle.layout.specs.declared.shapes.Kind.the-variants.{Polygon};
+ghost use Rattle.layout.specs.declared.shape.Kind.the-variants.{Polygon};
 ghost use Rattle.layout.specs.Demands.{CodesAnswer};
 ghost use Rattle.forming.specs.Forming.{FormAnswer, LengthAnswer};
 

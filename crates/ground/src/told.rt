@@ -1,8 +1,8 @@
 // An answer in plain numbers, for a program or a library in another language.
-use crate::codes::LongitudeCode;
-use crate::quantities::Nanodegrees;
-use crate::quantities::SignedMetresPerHour;
-use crate::quantities::SignedMillimetres;
+use crate::code::LongitudeCode;
+use crate::quantity::Nanodegrees;
+use crate::quantity::SignedMetresPerHour;
+use crate::quantity::SignedMillimetres;
 use crate::refusals::Refusal;
 
 pub enum Told {

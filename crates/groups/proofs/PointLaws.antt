@@ -9,9 +9,9 @@ use lib.ListN.{length, getD, set, List·getD-eq-default}
 use lib.Seq.{getD-set-same, getD-set-other}
 use borrow.Author.Count.{below-more}
 use borrow.Author.Tests.{ltb-true, ltb-false}
-use Rattle.ground.specs.declared.codes.LatitudeCode.{LatitudeCode}
-use Rattle.ground.specs.declared.codes.LongitudeCode.{LongitudeCode}
-use Rattle.ground.specs.declared.quantities.Nanodegrees.{Nanodegrees}
+use Rattle.ground.specs.declared.code.LatitudeCode.{LatitudeCode}
+use Rattle.ground.specs.declared.code.LongitudeCode.{LongitudeCode}
+use Rattle.ground.specs.declared.quantity.Nanodegrees.{Nanodegrees}
 use Rattle.fields.specs.Fields as field
 use Rattle.layout.specs.Shapes.{zeroLatitude, zeroLongitude}
 use Rattle.quantities.specs.Shapes.{zeroDegrees}

@@ -4,8 +4,8 @@ use mathlib.Core.Path.{_≡_, refl}
 use mathlib.Core.Bool.{Bool, true, false}
 use native.Mathlib.Omega.{arith}
 use Rattle.ground.specs.Answers.{refused}
-use Rattle.ground.specs.declared.codes.IncludedCode.{IncludedCode}
-use Rattle.ground.specs.declared.quantities.Millidegrees.{Millidegrees}
+use Rattle.ground.specs.declared.code.IncludedCode.{IncludedCode}
+use Rattle.ground.specs.declared.quantity.Millidegrees.{Millidegrees}
 use Rattle.ground.specs.declared.refusals.Refusal.{Refusal}
 use Rattle.angles.specs.declared.IncludedCoded.the-variants.{Code, Refused}
 use Rattle.fields.specs.Fields.{Coding}

@@ -6,9 +6,9 @@ use Prim.Native.Nat.{ℕ}
 use lib.Dec.{ltb}
 use lib.ListN.{length, getD}
 use Rattle.ground.specs.Answers.{done, refused}
-use Rattle.ground.specs.declared.codes.LatitudeCode.{LatitudeCode}
-use Rattle.ground.specs.declared.codes.LongitudeCode.{LongitudeCode}
-use Rattle.ground.specs.declared.quantities.Nanodegrees.{Nanodegrees}
+use Rattle.ground.specs.declared.code.LatitudeCode.{LatitudeCode}
+use Rattle.ground.specs.declared.code.LongitudeCode.{LongitudeCode}
+use Rattle.ground.specs.declared.quantity.Nanodegrees.{Nanodegrees}
 use Rattle.fields.specs.Fields.{Coding}
 use Rattle.fields.specs.Fields as field
 use Rattle.layout.specs.Shapes.{zeroLatitude, zeroLongitude}

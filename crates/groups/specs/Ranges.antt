@@ -2,15 +2,15 @@
 use mathlib.Core.Path.{_≡_}
 use mathlib.Core.Bool.{Bool, true, false}
 use Rattle.ground.specs.Answers.{done, refused}
-use Rattle.ground.specs.declared.codes.IncludedCode.{IncludedCode}
-use Rattle.ground.specs.declared.quantities.Millidegrees.{Millidegrees}
+use Rattle.ground.specs.declared.code.IncludedCode.{IncludedCode}
+use Rattle.ground.specs.declared.quantity.Millidegrees.{Millidegrees}
 use Rattle.angles.specs.declared.IncludedCoded.{IncludedCoded}
 use Rattle.angles.specs.declared.IncludedCoded.the-variants as included
 use Rattle.angles.specs.Angles.{CodedIncluded}
 use Rattle.fields.specs.Fields.{Coding}
 use Rattle.fields.specs.Fields as field
 use Rattle.quantities.specs.Places.{zeroCode}
-use Rattle.quantities.specs.declared.shapes.ShapeQuantities.{ShapeQuantities}
+use Rattle.quantities.specs.declared.shape.ShapeQuantities.{ShapeQuantities}
 use Rattle.groups.specs.declared.ranges.Ranged.{Ranged}
 use Rattle.groups.specs.declared.ranges.RangedCoded.{RangedCoded}
 use Rattle.groups.specs.declared.ranges.RangedCoded.the-variants.{Codes, OutOfRange}

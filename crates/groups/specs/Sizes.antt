@@ -2,7 +2,7 @@
 use Rattle.ground.specs.Answers.{done, refused}
 use Rattle.fields.specs.Fields.{Coding}
 use Rattle.fields.specs.Fields as field
-use Rattle.quantities.specs.declared.shapes.ShapeQuantities.{ShapeQuantities}
+use Rattle.quantities.specs.declared.shape.ShapeQuantities.{ShapeQuantities}
 use Rattle.groups.specs.declared.sizes.Sizes.{Sizes}
 use Rattle.groups.specs.declared.sizes.SizesCoded.{SizesCoded}
 use Rattle.groups.specs.declared.sizes.SizesCoded.the-variants.{Codes, TooLarge}

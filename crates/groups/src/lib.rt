@@ -1,10 +1,10 @@
 // The codes of a shape's quantities, group by group: those that have a range, the uncertainties, a polygon's points.
-mod outlines;
+mod outline;
 mod points;
 mod ranges;
 mod sizes;
 
-pub use outlines::outlined;
+pub use outline::outlined;
 pub use points::PointCoded;
 pub use points::Points;
 pub use points::code_point;

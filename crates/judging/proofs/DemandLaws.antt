@@ -6,8 +6,8 @@ use native.Mathlib.Omega.{arith}
 use Rattle.ground.specs.Answers.{numberOf, Unless, Else0, unmet, met}
 use Rattle.ground.specs.declared.refusals.Refusal.{Refusal}
 use Rattle.ground.proofs.AnswerLaws.{not-0, when-done, unless-as}
-use Rattle.layout.specs.declared.shapes.Kind.{Kind}
-use Rattle.layout.specs.declared.shapes.Kind.the-variants.{Nothing, Point, Circle, Ellipse, Polygon, AltitudePoint, AltitudeEllipsoid, Arc}
+use Rattle.layout.specs.declared.shape.Kind.{Kind}
+use Rattle.layout.specs.declared.shape.Kind.the-variants.{Nothing, Point, Circle, Ellipse, Polygon, AltitudePoint, AltitudeEllipsoid, Arc}
 use Rattle.layout.specs.Layout.{Field, Row, count, orientation, offset, included, bearing, confidence, shapeRows}
 use Rattle.layout.specs.Rows.{tag, widthOf}
 use Rattle.layout.specs.Demands.{Listed, CountSound, AnglesSound, ConfidenceSound, InFields, CodesAnswer}

@@ -7,7 +7,7 @@ use native.Mathlib.Nat.{add-zero}
 use lib.ListN.{length}
 use Rattle.octets.specs.Bits.{octets}
 use Rattle.octets.proofs.OctetLaws.{octets-one, octets-two, octets-three}
-use Rattle.layout.specs.declared.shapes.Kind.the-variants.{Point, Circle, Ellipse, Polygon, AltitudePoint, AltitudeEllipsoid, Arc}
+use Rattle.layout.specs.declared.shape.Kind.the-variants.{Point, Circle, Ellipse, Polygon, AltitudePoint, AltitudeEllipsoid, Arc}
 use Rattle.layout.specs.Layout.{
   Field,
   typeNumber,

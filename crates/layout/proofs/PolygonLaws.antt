@@ -5,7 +5,7 @@ use mathlib.Core.List.{List}
 use native.Mathlib.Omega.{arith}
 use native.Mathlib.Nat.{add-zero, zero-add}
 use borrow.Author.Tests.{ne-eqb, eq-eqb}
-use Rattle.layout.specs.declared.shapes.Kind.the-variants.{Polygon}
+use Rattle.layout.specs.declared.shape.Kind.the-variants.{Polygon}
 use Rattle.layout.specs.Layout.{Field, Row, row, south, latitude, longitude, points, shapeRows}
 use Rattle.layout.specs.Rows.{tag, widthOf, endOf, lengthOf}
 use Rattle.layout.proofs.RowLaws.{All, Sorted}

@@ -6,7 +6,7 @@ use mathlib.Core.List.{List, [], _∷_, _++_}
 use native.Mathlib.Omega.{arith}
 use Rattle.octets.specs.Bits.{octets}
 use Rattle.octets.proofs.OctetLaws.{octets-one, octets-two}
-use Rattle.layout.specs.declared.velocities.VelocityKind.the-variants.{Horizontal, HorizontalVertical, HorizontalUncertain, HorizontalVerticalUncertain}
+use Rattle.layout.specs.declared.velocity.VelocityKind.the-variants.{Horizontal, HorizontalVertical, HorizontalUncertain, HorizontalVerticalUncertain}
 use Rattle.layout.specs.Layout.{Field, typeNumber, bearing, horizontalSpeed, down, verticalSpeed, speedUncertainty, verticalUncertainty, velocityRows}
 use Rattle.layout.specs.Rows.{message}
 

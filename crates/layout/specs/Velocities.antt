@@ -7,10 +7,10 @@ use Rattle.ground.specs.Answers.{outcomeNumber, handed}
 use Rattle.octets.specs.Bits.{bits}
 use Rattle.octets.specs.Codes.{bitOf, signOf}
 use Rattle.layout.specs.declared.Written.{Written}
-use Rattle.layout.specs.declared.velocities.VelocityKind.{VelocityKind}
-use Rattle.layout.specs.declared.velocities.VelocityKind.the-variants.{Nothing, Horizontal, HorizontalVertical, HorizontalUncertain, HorizontalVerticalUncertain}
-use Rattle.layout.specs.declared.velocities.Velocity.{Velocity}
-use Rattle.layout.specs.declared.velocities.VelocityRead.{VelocityRead}
+use Rattle.layout.specs.declared.velocity.VelocityKind.{VelocityKind}
+use Rattle.layout.specs.declared.velocity.VelocityKind.the-variants.{Nothing, Horizontal, HorizontalVertical, HorizontalUncertain, HorizontalVerticalUncertain}
+use Rattle.layout.specs.declared.velocity.Velocity.{Velocity}
+use Rattle.layout.specs.declared.velocity.VelocityRead.{VelocityRead}
 use Rattle.layout.specs.Layout.{
   Field,
   typeNumber,

@@ -3,10 +3,10 @@ use Prim.Native.Nat.{ℕ, _<_}
 use lib.IntN.{ℤ}
 use Rattle.ground.specs.Answers.{numberOf, Said, done, refused, Answer}
 use Rattle.ground.specs.Sets.{OfSign, LeastOf, NearestOf}
-use Rattle.ground.specs.declared.quantities.Millimetres.{Millimetres}
-use Rattle.ground.specs.declared.quantities.SignedMillimetres.{SignedMillimetres}
-use Rattle.ground.specs.declared.codes.AltitudeCode.{AltitudeCode}
-use Rattle.ground.specs.declared.codes.InnerRadiusCode.{InnerRadiusCode}
+use Rattle.ground.specs.declared.quantity.Millimetres.{Millimetres}
+use Rattle.ground.specs.declared.quantity.SignedMillimetres.{SignedMillimetres}
+use Rattle.ground.specs.declared.code.AltitudeCode.{AltitudeCode}
+use Rattle.ground.specs.declared.code.InnerRadiusCode.{InnerRadiusCode}
 use Rattle.lengths.specs.declared.AltitudeReported.{AltitudeReported}
 use Rattle.lengths.specs.declared.AltitudeReported.the-variants.{Altitude, Refused}
 use Rattle.ground.specs.Steps.{OpenStep}

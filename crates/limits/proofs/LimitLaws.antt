@@ -12,8 +12,8 @@ use lib.ListN.{length, getD, take}
 use lib.Pow.{pow-pos, le-ones, lt-of-le-ones}
 use borrow.Author.Tests.{ltb-true, ltb-false}
 use Rattle.octets.specs.Codes.{complement}
-use Rattle.layout.specs.declared.shapes.Kind.{Kind}
-use Rattle.layout.specs.declared.shapes.Kind.the-variants.{Nothing, Point, Circle, Ellipse, Polygon, AltitudePoint, AltitudeEllipsoid, Arc}
+use Rattle.layout.specs.declared.shape.Kind.{Kind}
+use Rattle.layout.specs.declared.shape.Kind.the-variants.{Nothing, Point, Circle, Ellipse, Polygon, AltitudePoint, AltitudeEllipsoid, Arc}
 use Rattle.layout.specs.Layout.{
   Field,
   typeNumber,

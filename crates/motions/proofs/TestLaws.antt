@@ -8,10 +8,10 @@ use lib.IntN.{ℤ}
 use mir.Syntax.{w32}
 use mir.Val.{SFits, ofZ}
 use Rattle.ground.specs.Answers.{Decides}
-use Rattle.ground.specs.declared.quantities.MetresPerHour.{MetresPerHour}
-use Rattle.ground.specs.declared.quantities.SignedMetresPerHour.{SignedMetresPerHour}
-use Rattle.ground.specs.declared.quantities.UncertaintySpeed.{UncertaintySpeed}
-use Rattle.ground.specs.declared.quantities.UncertaintySpeed.the-variants.{Speed, Missing}
+use Rattle.ground.specs.declared.quantity.MetresPerHour.{MetresPerHour}
+use Rattle.ground.specs.declared.quantity.SignedMetresPerHour.{SignedMetresPerHour}
+use Rattle.ground.specs.declared.quantity.UncertaintySpeed.{UncertaintySpeed}
+use Rattle.ground.specs.declared.quantity.UncertaintySpeed.the-variants.{Speed, Missing}
 use Rattle.ground.proofs.AnswerLaws.{decided}
 use Rattle.fields.specs.Fields as field
 use Rattle.quantities.specs.Places.{zeroQuantity}

@@ -11,23 +11,23 @@ use Rattle.ground.specs.declared.refusals.Outcome.{Outcome}
 use Rattle.ground.specs.declared.refusals.Outcome.the-variants.{Done}
 use Rattle.ground.specs.declared.refusals.Refusal.{Refusal}
 use Rattle.ground.specs.declared.refusals.Refusal.the-variants.{UnknownType, OutOfRange, UncertaintyTooLarge}
-use Rattle.ground.specs.declared.codes.BearingCode.{BearingCode}
-use Rattle.ground.specs.declared.codes.HorizontalSpeedCode.{HorizontalSpeedCode}
-use Rattle.ground.specs.declared.codes.VerticalSpeedCode.{VerticalSpeedCode}
-use Rattle.ground.specs.declared.codes.UncertaintySpeedCode.{UncertaintySpeedCode}
+use Rattle.ground.specs.declared.code.BearingCode.{BearingCode}
+use Rattle.ground.specs.declared.code.HorizontalSpeedCode.{HorizontalSpeedCode}
+use Rattle.ground.specs.declared.code.VerticalSpeedCode.{VerticalSpeedCode}
+use Rattle.ground.specs.declared.code.UncertaintySpeedCode.{UncertaintySpeedCode}
 use Rattle.fields.specs.Fields.{Coding}
 use Rattle.fields.specs.Fields as field
-use Rattle.layout.specs.declared.velocities.VelocityKind.{VelocityKind}
-use Rattle.layout.specs.declared.velocities.VelocityKind.the-variants.{Nothing, Horizontal, HorizontalVertical, HorizontalUncertain, HorizontalVerticalUncertain}
-use Rattle.layout.specs.declared.velocities.Velocity.{Velocity}
-use Rattle.layout.proofs.velocities.VelocityKind.{the-type}
+use Rattle.layout.specs.declared.velocity.VelocityKind.{VelocityKind}
+use Rattle.layout.specs.declared.velocity.VelocityKind.the-variants.{Nothing, Horizontal, HorizontalVertical, HorizontalUncertain, HorizontalVerticalUncertain}
+use Rattle.layout.specs.declared.velocity.Velocity.{Velocity}
+use Rattle.layout.proofs.velocity.VelocityKind.{the-type}
 use Rattle.layout.specs.Layout.{Field, Row, count, velocityRows}
 use Rattle.layout.specs.Layout as layout
 use Rattle.layout.specs.Demands.{Listed, Used, CountSound}
 use Rattle.layout.specs.Velocities.{blankVelocity}
 use Rattle.trips.proofs.WidthLaws.{velocityWidest, velocity-width}
-use Rattle.quantities.specs.declared.velocities.VelocityQuantities.{VelocityQuantities}
-use Rattle.quantities.specs.declared.velocities.VelocityCoded.{VelocityCoded}
+use Rattle.quantities.specs.declared.velocity.VelocityQuantities.{VelocityQuantities}
+use Rattle.quantities.specs.declared.velocity.VelocityCoded.{VelocityCoded}
 use Rattle.quantities.specs.Places.{Place, fieldOf, rowOf, Quantities, Unused, zeroCode, zeroQuantity}
 use Rattle.quantities.specs.Places as place
 use Rattle.quantities.specs.Promises.{InRange, Covered, CodeAnswer, Given}

@@ -2,9 +2,9 @@
 use mathlib.Core.Path.{_≡_}
 use Rattle.ground.specs.declared.refusals.Refusal.{Refusal}
 use Rattle.ground.specs.declared.refusals.Outcome.the-variants.{Refused}
-use Rattle.layout.specs.declared.velocities.VelocityKind.the-variants.{Nothing}
+use Rattle.layout.specs.declared.velocity.VelocityKind.the-variants.{Nothing}
 use Rattle.layout.specs.Velocities.{blankVelocity}
-use Rattle.quantities.specs.declared.velocities.VelocityCoded.{VelocityCoded}
+use Rattle.quantities.specs.declared.velocity.VelocityCoded.{VelocityCoded}
 
 pub record RefusedVelocity (why : Refusal) (r : VelocityCoded) : Type 0 where
   pub outcome : r .outcome ≡ Refused why

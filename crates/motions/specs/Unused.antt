@@ -2,15 +2,15 @@
 use mathlib.Core.Path.{_≡_}
 use mathlib.Core.Bool.{Bool, false}
 use lib.Dec.{ltb}
-use Rattle.ground.specs.declared.quantities.SignedMetresPerHour.{SignedMetresPerHour}
-use Rattle.ground.specs.declared.quantities.UncertaintySpeed.{UncertaintySpeed}
+use Rattle.ground.specs.declared.quantity.SignedMetresPerHour.{SignedMetresPerHour}
+use Rattle.ground.specs.declared.quantity.UncertaintySpeed.{UncertaintySpeed}
 use Rattle.fields.specs.Fields as field
-use Rattle.layout.specs.declared.velocities.VelocityKind.{VelocityKind}
+use Rattle.layout.specs.declared.velocity.VelocityKind.{VelocityKind}
 use Rattle.layout.specs.Layout.{Field, verticalSpeed, speedUncertainty, verticalUncertainty, velocityRows}
 use Rattle.layout.specs.Rows.{widthOf}
 use Rattle.quantities.specs.Places.{zeroQuantity}
-use Rattle.quantities.specs.declared.velocities.VelocityQuantities.{VelocityQuantities}
-use Rattle.motions.specs.declared.unused.MotionUses.{MotionUses}
+use Rattle.quantities.specs.declared.velocity.VelocityQuantities.{VelocityQuantities}
+use Rattle.motions.specs.declared.zeros.MotionUses.{MotionUses}
 
 abbrev pub motionUses : VelocityKind → Field → Bool
 motionUses k f = ltb 0 (widthOf (velocityRows k) f)

@@ -1,5 +1,5 @@
 // A velocity's record coded from its quantities by its own type: document 01, "Quantities and codes" and "Range 7".
-mod unused;
+mod zeros;
 
 use angles::BearingCoded;
 use ground::Outcome;
@@ -22,7 +22,7 @@ pub fn code_velocity(quantities: VelocityQuantities) -> VelocityCoded
     if let VelocityKind::Nothing = kind {
         return refused(Refusal::UnknownType);
     }
-    if !unused::is_zero(quantities) {
+    if !zeros::is_zero(quantities) {
         return refused(Refusal::OutOfRange);
     }
     let BearingCoded::Code(bearing) = angles::bearing_code(quantities.bearing) else {

@@ -14,8 +14,8 @@ use lib.Seq.{drop-drop, getD-drop, take-all}
 use Rattle.text.proofs.OutputLaws.{split}
 use Rattle.numerals.specs.Marks.{FirstMark}
 use Rattle.ground.specs.declared.signs.Parts.{Parts}
-use Rattle.numerals.specs.declared.numerals.Numeral.{Numeral}
-use Rattle.numerals.specs.declared.numerals.Numeral.the-variants.{Number, Nothing}
+use Rattle.numerals.specs.declared.numeral.Numeral.{Numeral}
+use Rattle.numerals.specs.declared.numeral.Numeral.the-variants.{Number, Nothing}
 use Rattle.numerals.specs.Numerals.{isDigit, numberFrom, digitsOf, numeralOf}
 use Rattle.numerals.specs.Widths.{Means}
 use Rattle.numerals.specs.Fields.{fieldsFrom, fieldsOf, fieldAt, IsAbsent, Starts}

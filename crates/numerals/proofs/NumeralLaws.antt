@@ -12,8 +12,8 @@ use lib.ListN.{length, take, drop, getD, length-drop}
 use lib.Seq.{drop-cons, drop-drop, take-add, take-all}
 use borrow.Author.Tests.{lt-ltb, le-ltb, eq-eqb, ne-eqb}
 use Rattle.ground.specs.declared.signs.Parts.{Parts}
-use Rattle.numerals.specs.declared.numerals.Digits.{Digits}
-use Rattle.numerals.specs.declared.numerals.Numeral.the-variants.{Number, Nothing}
+use Rattle.numerals.specs.declared.numeral.Digits.{Digits}
+use Rattle.numerals.specs.declared.numeral.Numeral.the-variants.{Number, Nothing}
 use Rattle.numerals.specs.Numerals.{isDigit, numberFrom, digitsOf, numeralOf, Row, DigitsFrom}
 use Rattle.text.proofs.OutputLaws.{split}
 

@@ -11,7 +11,7 @@ use borrow.Author.Tests.{lt-ltb, le-ltb, ne-eqb}
 use mir.Syntax.{w64}
 use mir.Val.{SFits}
 use Rattle.ground.specs.Signs.{partsOf}
-use Rattle.numerals.specs.declared.numerals.Numeral.the-variants.{Number}
+use Rattle.numerals.specs.declared.numeral.Numeral.the-variants.{Number}
 use Rattle.text.specs.Text.{decimal, signedDecimal}
 use Rattle.numerals.specs.Numerals.{numberFrom, digitsOf, numeralOf}
 use Rattle.text.proofs.OutputLaws.{split, decimal-small, decimal-more}

@@ -4,12 +4,12 @@ use mathlib.Core.List.{List}
 use Prim.Native.Nat.{ℕ, _<_, _^_}
 use lib.IntN.{ℤ, pos}
 use lib.Signed.{mag}
-use Rattle.ground.specs.declared.quantities.Confidence.{Confidence}
-use Rattle.ground.specs.declared.quantities.Confidence.the-variants as confident
+use Rattle.ground.specs.declared.quantity.Confidence.{Confidence}
+use Rattle.ground.specs.declared.quantity.Confidence.the-variants as confident
 use Rattle.numerals.specs.Numerals.{numeralOf, digitsOf}
 use Rattle.numerals.specs.Widths.{Means, FitsSigned, AsSigned64, AsSigned32, AsUnsigned32}
 use Rattle.numerals.specs.Fields.{IsAbsent, SaysSigned, SaysUnsigned, SaysConfidence}
-use Rattle.numerals.specs.declared.numerals.Numeral.{Numeral}
+use Rattle.numerals.specs.declared.numeral.Numeral.{Numeral}
 use Rattle.numerals.specs.declared.widths.Signed64.{Signed64}
 use Rattle.numerals.specs.declared.widths.Signed64.the-variants as s64
 use Rattle.numerals.specs.declared.widths.Signed32.{Signed32}

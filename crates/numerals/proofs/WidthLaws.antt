@@ -11,8 +11,8 @@ use mir.Val.{bits, hbits, toZ}
 use mir.Facts.{toZ-pos, toZ-neg}
 use Rattle.ground.specs.declared.signs.Parts.{Parts}
 use Rattle.numerals.specs.Widths.{valueOf, Means, FitsSigned, AsSigned64, AsSigned32, AsUnsigned32, IsBelow, AsSize}
-use Rattle.numerals.specs.declared.numerals.Numeral.{Numeral}
-use Rattle.numerals.specs.declared.numerals.Numeral.the-variants.{Number, Nothing}
+use Rattle.numerals.specs.declared.numeral.Numeral.{Numeral}
+use Rattle.numerals.specs.declared.numeral.Numeral.the-variants.{Number, Nothing}
 use Rattle.numerals.specs.declared.widths.Signed64.{Signed64}
 use Rattle.numerals.specs.declared.widths.Signed64.the-variants as s64
 use Rattle.numerals.specs.declared.widths.Signed32.{Signed32}

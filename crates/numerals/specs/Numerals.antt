@@ -5,9 +5,9 @@ use mathlib.Core.List.{List, [], _∷_, _++_}
 use Prim.Native.Nat.{ℕ, _+_, _*_, _-_, _≤_, _<_, min}
 use lib.ListN.{length, getD, take, drop}
 use lib.Dec.{eqb, ltb}
-use Rattle.numerals.specs.declared.numerals.Digits.{Digits}
-use Rattle.numerals.specs.declared.numerals.Numeral.{Numeral}
-use Rattle.numerals.specs.declared.numerals.Numeral.the-variants.{Number, Nothing}
+use Rattle.numerals.specs.declared.numeral.Digits.{Digits}
+use Rattle.numerals.specs.declared.numeral.Numeral.{Numeral}
+use Rattle.numerals.specs.declared.numeral.Numeral.the-variants.{Number, Nothing}
 
 -- 48 to 57
 abbrev pub isDigit : ℕ → Bool

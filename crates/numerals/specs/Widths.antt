@@ -5,8 +5,8 @@ use Prim.Native.Nat.{ℕ, _-_, _<_, _^_}
 use lib.IntN.{ℤ, pos, negsuc, negℤ}
 use lib.Signed.{mag}
 use Rattle.ground.specs.declared.signs.Parts.{Parts}
-use Rattle.numerals.specs.declared.numerals.Numeral.{Numeral}
-use Rattle.numerals.specs.declared.numerals.Numeral.the-variants.{Number, Nothing}
+use Rattle.numerals.specs.declared.numeral.Numeral.{Numeral}
+use Rattle.numerals.specs.declared.numeral.Numeral.the-variants.{Number, Nothing}
 use Rattle.numerals.specs.declared.widths.Signed64.{Signed64}
 use Rattle.numerals.specs.declared.widths.Signed64.the-variants as s64
 use Rattle.numerals.specs.declared.widths.Signed32.{Signed32}

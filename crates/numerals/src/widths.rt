@@ -1,5 +1,5 @@
 // A numeral as a number of some width, where minus zero is zero.
-use crate::numerals::Numeral;
+use crate::numeral::Numeral;
 ghost use Rattle.numerals.specs.Widths.{AsSigned64, AsSigned32, AsUnsigned32, AsSize};
 
 pub enum Signed64 {

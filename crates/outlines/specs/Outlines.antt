@@ -4,15 +4,15 @@ use mathlib.Core.List.{List, [], _∷_, _++_}
 use Prim.Native.Nat.{ℕ, zero, suc, _<_}
 use lib.ListN.{getD}
 use lib.Signed.{mag}
-use Rattle.ground.specs.declared.codes.LatitudeCode.{LatitudeCode}
-use Rattle.ground.specs.declared.codes.LongitudeCode.{LongitudeCode}
-use Rattle.ground.specs.declared.codes.UncertaintyCode.{UncertaintyCode}
-use Rattle.ground.specs.declared.codes.OrientationCode.{OrientationCode}
+use Rattle.ground.specs.declared.code.LatitudeCode.{LatitudeCode}
+use Rattle.ground.specs.declared.code.LongitudeCode.{LongitudeCode}
+use Rattle.ground.specs.declared.code.UncertaintyCode.{UncertaintyCode}
+use Rattle.ground.specs.declared.code.OrientationCode.{OrientationCode}
 use Rattle.fields.specs.Fields as field
 use Rattle.text.specs.Text.{decimal}
-use Rattle.layout.specs.declared.shapes.Kind.{Kind}
-use Rattle.layout.specs.declared.shapes.Kind.the-variants.{Nothing, Point, Circle, Ellipse, Polygon, AltitudePoint, AltitudeEllipsoid, Arc}
-use Rattle.layout.specs.declared.shapes.Shape.{Shape}
+use Rattle.layout.specs.declared.shape.Kind.{Kind}
+use Rattle.layout.specs.declared.shape.Kind.the-variants.{Nothing, Point, Circle, Ellipse, Polygon, AltitudePoint, AltitudeEllipsoid, Arc}
+use Rattle.layout.specs.declared.shape.Shape.{Shape}
 use Rattle.layout.specs.Layout.{typeOf}
 use Rattle.layout.specs.Shapes.{rowsOf, zeroLatitude, zeroLongitude}
 use Rattle.quantities.specs.Shapes.{codeAt}

@@ -13,7 +13,7 @@ ghost use lib.ListN.{length};
 ghost use lib.Signed.{mag};
 ghost use Rattle.text.specs.Text.{PutsWithin};
 ghost use Rattle.fields.specs.Fields as field;
-ghost use Rattle.layout.specs.declared.shapes.Kind.the-variants.{AltitudeEllipsoid, Arc};
+ghost use Rattle.layout.specs.declared.shape.Kind.the-variants.{AltitudeEllipsoid, Arc};
 ghost use Rattle.quantities.specs.Shapes.{TakesShape};
 ghost use Rattle.words.specs.Words.{codeText};
 ghost use Rattle.outlines.specs.Outlines.{shapeText, positionText, axesText, pointsText, restText, PointsHeld};

@@ -10,8 +10,8 @@ use lib.Signed.{mag}
 use borrow.Author.Tests.{ltb-true, ltb-false}
 use Rattle.octets.specs.Codes.{complement}
 use Rattle.fields.specs.Quantities.{Held}
-use Rattle.layout.specs.declared.shapes.Shape.{Shape}
-use Rattle.layout.specs.declared.velocities.Velocity.{Velocity}
+use Rattle.layout.specs.declared.shape.Shape.{Shape}
+use Rattle.layout.specs.declared.velocity.Velocity.{Velocity}
 use Rattle.layout.specs.Layout.{Field, Row, velocityRows}
 use Rattle.layout.specs.Layout as layout
 use Rattle.layout.specs.Rows.{widthOf, lengthOf}

@@ -11,7 +11,7 @@ use mir.Syntax.{Width, w64}
 use mir.Val.{SFits, ofZ, toZ}
 use mir.Facts.{toZ-ofZ, toZ-pos}
 use Rattle.ground.specs.Answers.{Decides}
-use Rattle.ground.specs.declared.quantities.Nanodegrees.{Nanodegrees}
+use Rattle.ground.specs.declared.quantity.Nanodegrees.{Nanodegrees}
 use Rattle.ground.proofs.AnswerLaws.{decided}
 use Rattle.fields.specs.Fields as field
 use Rattle.quantities.specs.Places.{zeroQuantity}

@@ -5,17 +5,17 @@ use Prim.Native.Nat.{zero, suc}
 use lib.IntN.{pos}
 use lib.ListN.{length, getD, replicate}
 use Rattle.ground.specs.Answers.{outcomeNumber}
-use Rattle.ground.specs.declared.quantities.Nanodegrees.{Nanodegrees}
+use Rattle.ground.specs.declared.quantity.Nanodegrees.{Nanodegrees}
 use Rattle.fields.specs.Fields as field
-use Rattle.layout.specs.declared.shapes.Kind.the-variants.{Nothing}
-use Rattle.layout.specs.declared.shapes.Shape.{Shape}
+use Rattle.layout.specs.declared.shape.Kind.the-variants.{Nothing}
+use Rattle.layout.specs.declared.shape.Shape.{Shape}
 use Rattle.layout.specs.Layout.{Row, shapeRows}
 use Rattle.layout.specs.Rows.{lengthOf}
 use Rattle.layout.specs.Demands.{WriteAnswer}
 use Rattle.layout.specs.Shapes.{rowsOf, valueOf, zeroLatitude, zeroLongitude, blankShape}
-use Rattle.quantities.specs.declared.shapes.ShapeQuantities.{ShapeQuantities}
-use Rattle.quantities.specs.declared.shapes.ShapeReported.{ShapeReported}
-use Rattle.quantities.specs.declared.shapes.ShapeCoded.{ShapeCoded}
+use Rattle.quantities.specs.declared.shape.ShapeQuantities.{ShapeQuantities}
+use Rattle.quantities.specs.declared.shape.ShapeReported.{ShapeReported}
+use Rattle.quantities.specs.declared.shape.ShapeCoded.{ShapeCoded}
 use Rattle.quantities.specs.Places.{latitude, longitude, altitude, uncertainty, semiMajor, semiMinor, orientation, altitudeUncertainty, confidence, innerRadius, offset, included, bearing, horizontalSpeed, verticalSpeed, speedUncertainty, verticalUncertainty, Codes, Quantities, zeroCode, zeroQuantity}
 use Rattle.quantities.specs.Promises.{EachReported, EachCoded, CodeAnswer, Given}
 

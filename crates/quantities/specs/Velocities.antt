@@ -2,15 +2,15 @@
 use mathlib.Core.Path.{_≡_}
 use Rattle.ground.specs.Answers.{outcomeNumber}
 use Rattle.fields.specs.Fields as field
-use Rattle.layout.specs.declared.velocities.VelocityKind.the-variants.{Nothing}
-use Rattle.layout.specs.declared.velocities.Velocity.{Velocity}
+use Rattle.layout.specs.declared.velocity.VelocityKind.the-variants.{Nothing}
+use Rattle.layout.specs.declared.velocity.Velocity.{Velocity}
 use Rattle.layout.specs.Layout.{velocityRows}
 use Rattle.layout.specs.Rows.{lengthOf}
 use Rattle.layout.specs.Demands.{WriteAnswer}
 use Rattle.layout.specs.Velocities.{velocityValueOf, blankVelocity}
-use Rattle.quantities.specs.declared.velocities.VelocityQuantities.{VelocityQuantities}
-use Rattle.quantities.specs.declared.velocities.VelocityReported.{VelocityReported}
-use Rattle.quantities.specs.declared.velocities.VelocityCoded.{VelocityCoded}
+use Rattle.quantities.specs.declared.velocity.VelocityQuantities.{VelocityQuantities}
+use Rattle.quantities.specs.declared.velocity.VelocityReported.{VelocityReported}
+use Rattle.quantities.specs.declared.velocity.VelocityCoded.{VelocityCoded}
 use Rattle.quantities.specs.Places.{latitude, longitude, altitude, uncertainty, semiMajor, semiMinor, orientation, altitudeUncertainty, confidence, innerRadius, offset, included, bearing, horizontalSpeed, verticalSpeed, speedUncertainty, verticalUncertainty, Codes, Quantities, zeroCode, zeroQuantity}
 use Rattle.quantities.specs.Promises.{EachReported, EachCoded, CodeAnswer, Given}
 

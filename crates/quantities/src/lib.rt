@@ -1,12 +1,12 @@
 // The quantities of a record, in document 01's units, and in specs/ what it means that they are reported and coded.
-mod shapes;
-mod velocities;
+mod shape;
+mod velocity;
 
-pub use shapes::ShapeCoded;
-pub use shapes::ShapeQuantities;
-pub use shapes::ShapeReported;
-pub use shapes::no_shape;
-pub use velocities::VelocityCoded;
-pub use velocities::VelocityQuantities;
-pub use velocities::VelocityReported;
-pub use velocities::no_velocity;
+pub use shape::ShapeCoded;
+pub use shape::ShapeQuantities;
+pub use shape::ShapeReported;
+pub use shape::no_shape;
+pub use velocity::VelocityCoded;
+pub use velocity::VelocityQuantities;
+pub use velocity::VelocityReported;
+pub use velocity::no_velocity;

@@ -8,8 +8,8 @@ use native.Mathlib.Numerals.{add-one}
 use lib.IntN.{ℤ, pos}
 use lib.ListN.{length, length-append, set, getD, drop, replicate, replicate-append-replicate}
 use lib.Seq.{sets, sets-eq}
-use Rattle.ground.specs.declared.quantities.Nanodegrees.{Nanodegrees}
-use Rattle.quantities.specs.declared.shapes.ShapeQuantities.{ShapeQuantities}
+use Rattle.ground.specs.declared.quantity.Nanodegrees.{Nanodegrees}
+use Rattle.quantities.specs.declared.shape.ShapeQuantities.{ShapeQuantities}
 use Rattle.quantities.specs.Shapes.{zeroDegrees}
 use Rattle.cells.proofs.CopyLaws.{sets-after}
 use Rattle.ground.proofs.ListLaws.{sets-append}

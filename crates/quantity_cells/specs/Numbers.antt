@@ -4,10 +4,10 @@ use mathlib.Core.Bool.{Bool, true, false, cond}
 use Prim.Native.Nat.{ℕ}
 use lib.Dec.{eqb}
 use lib.IntN.{ℤ, pos, negsuc}
-use Rattle.ground.specs.declared.quantities.Confidence.{Confidence}
-use Rattle.ground.specs.declared.quantities.Confidence.the-variants as confident
-use Rattle.ground.specs.declared.quantities.UncertaintySpeed.{UncertaintySpeed}
-use Rattle.ground.specs.declared.quantities.UncertaintySpeed.the-variants as uncertain
+use Rattle.ground.specs.declared.quantity.Confidence.{Confidence}
+use Rattle.ground.specs.declared.quantity.Confidence.the-variants as confident
+use Rattle.ground.specs.declared.quantity.UncertaintySpeed.{UncertaintySpeed}
+use Rattle.ground.specs.declared.quantity.UncertaintySpeed.the-variants as uncertain
 use Rattle.cells.specs.Codes.{capped}
 use Rattle.cells.specs.Quantities.{missing, Natural32, naturalOf}
 

@@ -3,10 +3,10 @@ use mathlib.Core.List.{List, [], _∷_, _++_}
 use Prim.Native.Nat.{ℕ, zero, suc, _+_, _*_, _≤_, _<_}
 use lib.IntN.{ℤ, pos}
 use lib.ListN.{getD, replicate}
-use Rattle.ground.specs.declared.quantities.Nanodegrees.{Nanodegrees}
+use Rattle.ground.specs.declared.quantity.Nanodegrees.{Nanodegrees}
 use Rattle.layout.specs.Layout.{typeOf}
 use Rattle.layout.specs.Shapes.{kindOf, upto}
-use Rattle.quantities.specs.declared.shapes.ShapeQuantities.{ShapeQuantities}
+use Rattle.quantities.specs.declared.shape.ShapeQuantities.{ShapeQuantities}
 use Rattle.quantities.specs.Shapes.{zeroDegrees}
 use Rattle.cells.specs.Quantities.{quantityIn, Natural32, Signed32, naturalOf, signedOf}
 use Rattle.quantity_cells.specs.Numbers.{octetOf, Optional, confidenceOf, confidenceCell}

@@ -3,7 +3,7 @@ use mathlib.Core.List.{List, [], _∷_}
 use lib.IntN.{ℤ, pos}
 use Rattle.layout.specs.Layout.{velocityTypeOf}
 use Rattle.layout.specs.Velocities.{velocityKindOf}
-use Rattle.quantities.specs.declared.velocities.VelocityQuantities.{VelocityQuantities}
+use Rattle.quantities.specs.declared.velocity.VelocityQuantities.{VelocityQuantities}
 use Rattle.cells.specs.Quantities.{quantityIn, Natural32, Signed32, naturalOf, signedOf}
 use Rattle.quantity_cells.specs.Numbers.{octetOf, Optional, uncertaintySpeedOf, uncertaintySpeedCell}
 

@@ -2,9 +2,9 @@
 use Prim.Native.Nat.{ℕ, _<_}
 use Rattle.ground.specs.Answers.{numberOf, Said, done, refused, Answer}
 use Rattle.ground.specs.Sets.{LeastCode, GreatestCovered}
-use Rattle.ground.specs.declared.quantities.Millimetres.{Millimetres}
-use Rattle.ground.specs.declared.codes.UncertaintyCode.{UncertaintyCode}
-use Rattle.ground.specs.declared.codes.AltitudeUncertaintyCode.{AltitudeUncertaintyCode}
+use Rattle.ground.specs.declared.quantity.Millimetres.{Millimetres}
+use Rattle.ground.specs.declared.code.UncertaintyCode.{UncertaintyCode}
+use Rattle.ground.specs.declared.code.AltitudeUncertaintyCode.{AltitudeUncertaintyCode}
 use Rattle.radii.specs.Covering.{Covers}
 use Rattle.radii.specs.declared.UncertaintyCoded.{UncertaintyCoded}
 use Rattle.radii.specs.declared.UncertaintyCoded.the-variants as uncertainty

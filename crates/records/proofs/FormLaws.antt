@@ -6,13 +6,13 @@ use Rattle.ground.specs.Answers.{numberOf, Unless, unmet, met, Else0}
 use Rattle.ground.specs.declared.refusals.Outcome.the-variants.{Done, Refused}
 use Rattle.ground.specs.declared.refusals.Refusal.{Refusal}
 use Rattle.ground.proofs.AnswerLaws.{when-done, outcome-one}
-use Rattle.layout.specs.declared.shapes.Kind.{Kind}
-use Rattle.layout.specs.declared.shapes.Kind.the-variants.{Nothing, Polygon}
+use Rattle.layout.specs.declared.shape.Kind.{Kind}
+use Rattle.layout.specs.declared.shape.Kind.the-variants.{Nothing, Polygon}
 use Rattle.layout.specs.Layout.{count, shapeRows}
 use Rattle.layout.specs.Rows.{widthOf}
 use Rattle.layout.specs.Demands.{Listed, CountSound}
 use Rattle.layout.proofs.PolygonLaws.{polygon-length}
-use Rattle.quantities.specs.declared.shapes.ShapeQuantities.{ShapeQuantities}
+use Rattle.quantities.specs.declared.shape.ShapeQuantities.{ShapeQuantities}
 use Rattle.quantities.specs.Promises.{CodeAnswer}
 use Rattle.quantities.specs.Shapes.{quantityRows, quantityAt}
 use Rattle.records.specs.Kinds.{FormAnswer, Formed}

@@ -9,20 +9,20 @@ use Rattle.ground.specs.declared.refusals.Outcome.{Outcome}
 use Rattle.ground.specs.declared.refusals.Outcome.the-variants.{Done}
 use Rattle.ground.specs.declared.refusals.Refusal.{Refusal}
 use Rattle.ground.specs.declared.refusals.Refusal.the-variants.{OutOfRange, UncertaintyTooLarge}
-use Rattle.ground.specs.declared.quantities.Millidegrees.{Millidegrees}
-use Rattle.ground.specs.declared.quantities.Millimetres.{Millimetres}
+use Rattle.ground.specs.declared.quantity.Millidegrees.{Millidegrees}
+use Rattle.ground.specs.declared.quantity.Millimetres.{Millimetres}
 use Rattle.fields.specs.Fields.{Coding}
 use Rattle.fields.specs.Fields as field
-use Rattle.layout.specs.declared.shapes.Kind.the-variants.{Nothing}
-use Rattle.layout.specs.declared.shapes.Shape.{Shape}
+use Rattle.layout.specs.declared.shape.Kind.the-variants.{Nothing}
+use Rattle.layout.specs.declared.shape.Shape.{Shape}
 use Rattle.layout.specs.Layout.{Field, Row}
 use Rattle.layout.specs.Layout as layout
 use Rattle.layout.specs.Demands.{Used}
 use Rattle.layout.specs.Shapes.{blankShape}
 use Rattle.layout.proofs.KindLaws.{pointsOf}
 use Rattle.trips.proofs.WidthLaws.{shapeWidest, shape-width}
-use Rattle.quantities.specs.declared.shapes.ShapeQuantities.{ShapeQuantities}
-use Rattle.quantities.specs.declared.shapes.ShapeCoded.{ShapeCoded}
+use Rattle.quantities.specs.declared.shape.ShapeQuantities.{ShapeQuantities}
+use Rattle.quantities.specs.declared.shape.ShapeCoded.{ShapeCoded}
 use Rattle.quantities.specs.Places.{Place, fieldOf, rowOf, Quantities, Unused, zeroCode, zeroQuantity}
 use Rattle.quantities.specs.Places as place
 use Rattle.quantities.specs.Promises.{InRange, Covered, CodeAnswer, Given}

@@ -1,10 +1,10 @@
 -- The form of quantities. Assumes nothing.
 use Prim.Native.Nat.{ℕ}
 use Rattle.ground.specs.Answers.{Unless, Else0}
-use Rattle.layout.specs.declared.shapes.Kind.{Kind}
+use Rattle.layout.specs.declared.shape.Kind.{Kind}
 use Rattle.layout.specs.Layout.{shapeRows}
 use Rattle.layout.specs.Demands.{Listed, CountSound}
-use Rattle.quantities.specs.declared.shapes.ShapeQuantities.{ShapeQuantities}
+use Rattle.quantities.specs.declared.shape.ShapeQuantities.{ShapeQuantities}
 use Rattle.quantities.specs.Shapes.{quantityRows}
 
 -- 2 and 4

@@ -2,10 +2,10 @@
 use mathlib.Core.Path.{_≡_}
 use Rattle.ground.specs.declared.refusals.Refusal.{Refusal}
 use Rattle.ground.specs.declared.refusals.Outcome.the-variants.{Refused}
-use Rattle.layout.specs.declared.shapes.Kind.the-variants.{Nothing}
-use Rattle.layout.specs.declared.shapes.Shape.{Shape}
+use Rattle.layout.specs.declared.shape.Kind.the-variants.{Nothing}
+use Rattle.layout.specs.declared.shape.Shape.{Shape}
 use Rattle.layout.specs.Shapes.{blankShape}
-use Rattle.quantities.specs.declared.shapes.ShapeCoded.{ShapeCoded}
+use Rattle.quantities.specs.declared.shape.ShapeCoded.{ShapeCoded}
 use Rattle.groups.specs.declared.points.Points.{Points}
 
 -- a record with these points

@@ -4,14 +4,14 @@ use mathlib.Core.Bool.{Bool}
 use Prim.Native.Nat.{ℕ}
 use Rattle.ground.specs.Answers.{Said, tells}
 use Rattle.ground.specs.declared.refusals.Refusal.the-variants.{AngleCode, ConfidenceTooLarge, OutOfRange}
-use Rattle.ground.specs.declared.quantities.Nanodegrees.{Nanodegrees}
-use Rattle.ground.specs.declared.quantities.Millidegrees.{Millidegrees}
-use Rattle.ground.specs.declared.quantities.Millimetres.{Millimetres}
-use Rattle.ground.specs.declared.quantities.SignedMillimetres.{SignedMillimetres}
-use Rattle.ground.specs.declared.quantities.UncertaintySpeed.{UncertaintySpeed}
-use Rattle.ground.specs.declared.quantities.UncertaintySpeed.the-variants as uncertain
-use Rattle.ground.specs.declared.quantities.Confidence.{Confidence}
-use Rattle.ground.specs.declared.quantities.Confidence.the-variants as confident
+use Rattle.ground.specs.declared.quantity.Nanodegrees.{Nanodegrees}
+use Rattle.ground.specs.declared.quantity.Millidegrees.{Millidegrees}
+use Rattle.ground.specs.declared.quantity.Millimetres.{Millimetres}
+use Rattle.ground.specs.declared.quantity.SignedMillimetres.{SignedMillimetres}
+use Rattle.ground.specs.declared.quantity.UncertaintySpeed.{UncertaintySpeed}
+use Rattle.ground.specs.declared.quantity.UncertaintySpeed.the-variants as uncertain
+use Rattle.ground.specs.declared.quantity.Confidence.{Confidence}
+use Rattle.ground.specs.declared.quantity.Confidence.the-variants as confident
 use Rattle.ground.specs.declared.told.Told.{Told}
 use Rattle.ground.specs.declared.told.Told.the-variants as told
 use Rattle.reporting.specs.declared.Byte.{Byte}

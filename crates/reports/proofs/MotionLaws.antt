@@ -5,12 +5,12 @@ use native.Mathlib.Omega.{arith}
 use Rattle.ground.specs.Answers.{done}
 use Rattle.fields.specs.Fields.{Reporting}
 use Rattle.fields.specs.Fields as field
-use Rattle.layout.specs.declared.velocities.Velocity.{Velocity}
+use Rattle.layout.specs.declared.velocity.Velocity.{Velocity}
 use Rattle.layout.specs.Layout.{Field, velocityRows}
 use Rattle.layout.specs.Layout as layout
 use Rattle.layout.specs.Demands.{Used}
 use Rattle.trips.proofs.WidthLaws.{velocityWidest, velocity-width}
-use Rattle.quantities.specs.declared.velocities.VelocityQuantities.{VelocityQuantities}
+use Rattle.quantities.specs.declared.velocity.VelocityQuantities.{VelocityQuantities}
 use Rattle.quantities.specs.Places.{
   Place,
   latitude,

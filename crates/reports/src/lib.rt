@@ -1,7 +1,7 @@
 // A record's reported quantities: document 01, "Quantities and codes".
-mod motions;
+mod motion;
 mod points;
-mod shapes;
+mod shape;
 
 use ground::Outcome;
 use layout::Shape;
@@ -18,7 +18,7 @@ pub fn report_shape(shape: Shape) -> ShapeReported
     match writing::shape_outcome(shape) {
         Outcome::Done => ShapeReported {
             outcome: Outcome::Done,
-            quantities: shapes::quantities_of(shape),
+            quantities: shape::quantities_of(shape),
         },
         Outcome::Refused(why) => ShapeReported {
             outcome: Outcome::Refused(why),
@@ -34,7 +34,7 @@ pub fn report_velocity(velocity: Velocity) -> VelocityReported
     match velocities::velocity_outcome(velocity) {
         Outcome::Done => VelocityReported {
             outcome: Outcome::Done,
-            quantities: motions::quantities_of(velocity),
+            quantities: motion::quantities_of(velocity),
         },
         Outcome::Refused(why) => VelocityReported {
             outcome: Outcome::Refused(why),

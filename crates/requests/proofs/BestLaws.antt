@@ -4,9 +4,9 @@ use mathlib.Core.Path.{_≡_, refl, sym, ap, _∙_, subst}
 use mathlib.Core.List.{List, []}
 use native.Mathlib.Omega.{arith}
 use lib.ListN.{length}
-use Rattle.layout.specs.declared.shapes.Kind.{Kind}
-use Rattle.layout.specs.declared.shapes.Kind.the-variants.{Point, Circle, Ellipse, AltitudePoint, AltitudeEllipsoid}
-use Rattle.layout.specs.declared.shapes.Shape.{Shape}
+use Rattle.layout.specs.declared.shape.Kind.{Kind}
+use Rattle.layout.specs.declared.shape.Kind.the-variants.{Point, Circle, Ellipse, AltitudePoint, AltitudeEllipsoid}
+use Rattle.layout.specs.declared.shape.Shape.{Shape}
 use Rattle.layout.specs.Layout.{Row, shapeRows}
 use Rattle.layout.specs.Rows.{lengthOf, message, spareZero}
 use Rattle.layout.specs.Shapes.{rowsIn, shapeIn, rowsOf, valueOf}

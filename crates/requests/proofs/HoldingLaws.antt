@@ -7,18 +7,18 @@ use lib.Dec.{T}
 use Rattle.ground.specs.Answers.{done}
 use Rattle.ground.specs.Sets.{LeastCode}
 use Rattle.ground.proofs.AnswerLaws.{said-one}
-use Rattle.ground.specs.declared.quantities.Confidence.{Confidence}
-use Rattle.ground.specs.declared.quantities.Confidence.the-variants as confident
-use Rattle.ground.specs.declared.codes.AltitudeCode.{AltitudeCode}
-use Rattle.ground.specs.declared.codes.AltitudeUncertaintyCode.{AltitudeUncertaintyCode}
-use Rattle.ground.specs.declared.codes.ConfidenceCode.{ConfidenceCode}
-use Rattle.ground.specs.declared.codes.OrientationCode.{OrientationCode}
+use Rattle.ground.specs.declared.quantity.Confidence.{Confidence}
+use Rattle.ground.specs.declared.quantity.Confidence.the-variants as confident
+use Rattle.ground.specs.declared.code.AltitudeCode.{AltitudeCode}
+use Rattle.ground.specs.declared.code.AltitudeUncertaintyCode.{AltitudeUncertaintyCode}
+use Rattle.ground.specs.declared.code.ConfidenceCode.{ConfidenceCode}
+use Rattle.ground.specs.declared.code.OrientationCode.{OrientationCode}
 use Rattle.radii.specs.Covering.{Covers}
 use Rattle.radii.proofs.CoverLaws.{covers-up}
 use Rattle.fields.specs.Fields.{Field, CodeOf, QuantityOf, Coding}
 use Rattle.fields.specs.Fields as field
 use Rattle.fields.proofs.OneAnswer.{coding-one}
-use Rattle.layout.specs.declared.shapes.Shape.{Shape}
+use Rattle.layout.specs.declared.shape.Shape.{Shape}
 use Rattle.layout.specs.Shapes.{rowsOf}
 use Rattle.requests.specs.declared.Request.{Request}
 use Rattle.requests.specs.declared.Altitude.{Altitude}

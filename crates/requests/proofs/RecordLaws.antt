@@ -9,14 +9,14 @@ use lib.IntN.{ℤ, pos, negsuc}
 use lib.Signed.{mag}
 use lib.ListN.{length}
 use borrow.Author.Tests.{eqb-true, eqb-false, lt-ltb}
-use Rattle.ground.specs.declared.codes.AltitudeCode.{AltitudeCode}
-use Rattle.ground.specs.declared.codes.LatitudeCode.{LatitudeCode}
-use Rattle.ground.specs.declared.codes.LongitudeCode.{LongitudeCode}
+use Rattle.ground.specs.declared.code.AltitudeCode.{AltitudeCode}
+use Rattle.ground.specs.declared.code.LatitudeCode.{LatitudeCode}
+use Rattle.ground.specs.declared.code.LongitudeCode.{LongitudeCode}
 use Rattle.octets.specs.Codes.{bitOf, signOf, complement, fromComplement}
 use Rattle.octets.proofs.ComplementLaws.{complement-back}
-use Rattle.layout.specs.declared.shapes.Kind.{Kind}
-use Rattle.layout.specs.declared.shapes.Kind.the-variants.{AltitudePoint, AltitudeEllipsoid}
-use Rattle.layout.specs.declared.shapes.Shape.{Shape}
+use Rattle.layout.specs.declared.shape.Kind.{Kind}
+use Rattle.layout.specs.declared.shape.Kind.the-variants.{AltitudePoint, AltitudeEllipsoid}
+use Rattle.layout.specs.declared.shape.Shape.{Shape}
 use Rattle.layout.specs.Layout.{
   Field,
   typeNumber,

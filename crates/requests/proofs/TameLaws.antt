@@ -2,7 +2,7 @@
 use Prim.Native.Nat.{ℕ}
 use mathlib.Core.Path.{_≡_, ap}
 use native.Mathlib.Omega.{arith}
-use Rattle.ground.specs.declared.codes.AltitudeCode.{AltitudeCode}
+use Rattle.ground.specs.declared.code.AltitudeCode.{AltitudeCode}
 use Rattle.fields.specs.Fields as field
 use Rattle.fields.specs.Quantities.{Held}
 use Rattle.requests.specs.declared.Request.{Request}

@@ -6,17 +6,17 @@ use mathlib.Core.List.{List}
 use Prim.Native.Nat.{ℕ, zero, suc, _≤_}
 use lib.Dec.{ltb, eqb}
 use Rattle.ground.specs.Answers.{done}
-use Rattle.ground.specs.declared.quantities.Millimetres.{Millimetres}
-use Rattle.ground.specs.declared.codes.AltitudeCode.{AltitudeCode}
-use Rattle.ground.specs.declared.codes.AltitudeUncertaintyCode.{AltitudeUncertaintyCode}
-use Rattle.ground.specs.declared.codes.ConfidenceCode.{ConfidenceCode}
-use Rattle.ground.specs.declared.codes.OrientationCode.{OrientationCode}
+use Rattle.ground.specs.declared.quantity.Millimetres.{Millimetres}
+use Rattle.ground.specs.declared.code.AltitudeCode.{AltitudeCode}
+use Rattle.ground.specs.declared.code.AltitudeUncertaintyCode.{AltitudeUncertaintyCode}
+use Rattle.ground.specs.declared.code.ConfidenceCode.{ConfidenceCode}
+use Rattle.ground.specs.declared.code.OrientationCode.{OrientationCode}
 use Rattle.fields.specs.Fields.{Coding}
 use Rattle.fields.specs.Fields as field
 use Rattle.fields.specs.Quantities.{Held}
 use Rattle.octets.specs.Codes.{bitOf, complement}
-use Rattle.layout.specs.declared.shapes.Kind.{Kind}
-use Rattle.layout.specs.declared.shapes.Shape.{Shape}
+use Rattle.layout.specs.declared.shape.Kind.{Kind}
+use Rattle.layout.specs.declared.shape.Shape.{Shape}
 use Rattle.layout.specs.Layout.{
   Field,
   typeNumber,

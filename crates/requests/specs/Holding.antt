@@ -3,20 +3,20 @@ use mathlib.Core.Path.{_≡_}
 use mathlib.Core.Bool.{cond}
 use Prim.Native.Nat.{ℕ}
 use lib.Dec.{ltb}
-use Rattle.ground.specs.declared.quantities.Confidence.{Confidence}
-use Rattle.ground.specs.declared.quantities.Confidence.the-variants as confident
-use Rattle.ground.specs.declared.codes.AltitudeCode.{AltitudeCode}
-use Rattle.ground.specs.declared.codes.AltitudeUncertaintyCode.{AltitudeUncertaintyCode}
-use Rattle.ground.specs.declared.codes.ConfidenceCode.{ConfidenceCode}
-use Rattle.ground.specs.declared.codes.OrientationCode.{OrientationCode}
-use Rattle.ground.specs.declared.codes.UncertaintyCode.{UncertaintyCode}
+use Rattle.ground.specs.declared.quantity.Confidence.{Confidence}
+use Rattle.ground.specs.declared.quantity.Confidence.the-variants as confident
+use Rattle.ground.specs.declared.code.AltitudeCode.{AltitudeCode}
+use Rattle.ground.specs.declared.code.AltitudeUncertaintyCode.{AltitudeUncertaintyCode}
+use Rattle.ground.specs.declared.code.ConfidenceCode.{ConfidenceCode}
+use Rattle.ground.specs.declared.code.OrientationCode.{OrientationCode}
+use Rattle.ground.specs.declared.code.UncertaintyCode.{UncertaintyCode}
 use Rattle.coordinates.specs.Latitude.{LatitudeSet}
 use Rattle.coordinates.specs.Longitude.{LongitudeSet}
 use Rattle.lengths.specs.Lengths.{AltitudeSet}
 use Rattle.angles.specs.Angles.{OrientationSet}
 use Rattle.radii.specs.Radii.{RadiusCovers, HeightCovers}
 use Rattle.confidences.specs.Confidences.{ConfidenceSet}
-use Rattle.layout.specs.declared.shapes.Shape.{Shape}
+use Rattle.layout.specs.declared.shape.Shape.{Shape}
 use Rattle.layout.specs.Layout.{Field, Row, altitude, uncertainty, semiMajor, altitudeUncertainty, confidence}
 use mathlib.Core.List.{List}
 use Rattle.layout.specs.Rows.{widthOf}

@@ -10,10 +10,10 @@ use Rattle.ground.specs.declared.refusals.Outcome.{Outcome}
 use Rattle.ground.specs.declared.refusals.Outcome.the-variants.{Done, Refused}
 use Rattle.ground.proofs.AnswerLaws.{outcome-one}
 use Rattle.layout.specs.declared.Written.{Written}
-use Rattle.layout.specs.declared.shapes.Kind.{Kind}
-use Rattle.layout.specs.declared.shapes.Kind.the-variants as shape
-use Rattle.layout.specs.declared.shapes.Shape.{Shape}
-use Rattle.layout.specs.declared.shapes.ShapeRead.{ShapeRead}
+use Rattle.layout.specs.declared.shape.Kind.{Kind}
+use Rattle.layout.specs.declared.shape.Kind.the-variants as shape
+use Rattle.layout.specs.declared.shape.Shape.{Shape}
+use Rattle.layout.specs.declared.shape.ShapeRead.{ShapeRead}
 use Rattle.layout.specs.Layout.{Row, shapeRows}
 use Rattle.layout.specs.Layout as layout
 use Rattle.layout.specs.Rows.{lengthOf, spareZero}
@@ -24,9 +24,9 @@ use Rattle.trips.proofs.DemandLaws.{Sound, sound}
 use Rattle.trips.proofs.OneAnswer.{write-answer-one}
 use Rattle.trips.proofs.ShapeRecords.{Fifteen}
 use Rattle.trips.proofs.ShapeTrips.{shape-taken, shape-accepted, shape-whole, shape-again}
-use Rattle.quantities.specs.declared.shapes.ShapeQuantities.{ShapeQuantities}
-use Rattle.quantities.specs.declared.shapes.ShapeReported.{ShapeReported}
-use Rattle.quantities.specs.declared.shapes.ShapeCoded.{ShapeCoded}
+use Rattle.quantities.specs.declared.shape.ShapeQuantities.{ShapeQuantities}
+use Rattle.quantities.specs.declared.shape.ShapeReported.{ShapeReported}
+use Rattle.quantities.specs.declared.shape.ShapeCoded.{ShapeCoded}
 use Rattle.quantities.specs.Places.{
   Place,
   latitude,

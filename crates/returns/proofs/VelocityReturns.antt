@@ -8,10 +8,10 @@ use Rattle.ground.specs.declared.refusals.Outcome.{Outcome}
 use Rattle.ground.specs.declared.refusals.Outcome.the-variants.{Done, Refused}
 use Rattle.ground.proofs.AnswerLaws.{outcome-one}
 use Rattle.layout.specs.declared.Written.{Written}
-use Rattle.layout.specs.declared.velocities.VelocityKind.{VelocityKind}
-use Rattle.layout.specs.declared.velocities.VelocityKind.the-variants.{Nothing}
-use Rattle.layout.specs.declared.velocities.Velocity.{Velocity}
-use Rattle.layout.specs.declared.velocities.VelocityRead.{VelocityRead}
+use Rattle.layout.specs.declared.velocity.VelocityKind.{VelocityKind}
+use Rattle.layout.specs.declared.velocity.VelocityKind.the-variants.{Nothing}
+use Rattle.layout.specs.declared.velocity.Velocity.{Velocity}
+use Rattle.layout.specs.declared.velocity.VelocityRead.{VelocityRead}
 use Rattle.layout.specs.Layout.{velocityRows}
 use Rattle.layout.specs.Layout as layout
 use Rattle.layout.specs.Rows.{lengthOf, spareZero}
@@ -21,9 +21,9 @@ use Rattle.trips.proofs.DemandLaws.{Sound, sound}
 use Rattle.trips.proofs.OneAnswer.{write-answer-one}
 use Rattle.trips.proofs.WidthLaws.{velocity-width}
 use Rattle.trips.proofs.VelocityTrips.{velocity-taken, velocity-accepted, velocity-again}
-use Rattle.quantities.specs.declared.velocities.VelocityQuantities.{VelocityQuantities}
-use Rattle.quantities.specs.declared.velocities.VelocityReported.{VelocityReported}
-use Rattle.quantities.specs.declared.velocities.VelocityCoded.{VelocityCoded}
+use Rattle.quantities.specs.declared.velocity.VelocityQuantities.{VelocityQuantities}
+use Rattle.quantities.specs.declared.velocity.VelocityReported.{VelocityReported}
+use Rattle.quantities.specs.declared.velocity.VelocityCoded.{VelocityCoded}
 use Rattle.quantities.specs.Places.{Place, bearing, horizontalSpeed, verticalSpeed, speedUncertainty, verticalUncertainty}
 use Rattle.quantities.specs.Promises.{EachCoded, CodeAnswer, Given}
 use Rattle.quantities.specs.Velocities.{velocityCodeAt, velocityQuantityAt, noVelocity, VelocityQuantitiesOf, ReportsVelocity, VelocityRecordOf, CodesVelocity, TakesVelocity}

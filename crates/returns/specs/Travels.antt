@@ -2,12 +2,12 @@
 use mathlib.Core.Path.{_≡_}
 use Prim.Native.Nat.{ℕ, zero, suc, _≤_}
 use Rattle.ground.specs.declared.refusals.Outcome.the-variants.{Done}
-use Rattle.layout.specs.declared.shapes.Shape.{Shape}
-use Rattle.layout.specs.declared.velocities.Velocity.{Velocity}
-use Rattle.quantities.specs.declared.shapes.ShapeReported.{ShapeReported}
-use Rattle.quantities.specs.declared.shapes.ShapeCoded.{ShapeCoded}
-use Rattle.quantities.specs.declared.velocities.VelocityReported.{VelocityReported}
-use Rattle.quantities.specs.declared.velocities.VelocityCoded.{VelocityCoded}
+use Rattle.layout.specs.declared.shape.Shape.{Shape}
+use Rattle.layout.specs.declared.velocity.Velocity.{Velocity}
+use Rattle.quantities.specs.declared.shape.ShapeReported.{ShapeReported}
+use Rattle.quantities.specs.declared.shape.ShapeCoded.{ShapeCoded}
+use Rattle.quantities.specs.declared.velocity.VelocityReported.{VelocityReported}
+use Rattle.quantities.specs.declared.velocity.VelocityCoded.{VelocityCoded}
 use Rattle.quantities.specs.Shapes.{ReportsShape, CodesShape}
 use Rattle.quantities.specs.Velocities.{ReportsVelocity, CodesVelocity}
 

@@ -5,13 +5,13 @@ use lib.IntN.{ℤ}
 use Rattle.ground.specs.Answers.{numberOf, Said, done, refused, Answer}
 use Rattle.ground.specs.Signs.{signed}
 use Rattle.ground.specs.Sets.{OfSign, LeastCode, GreatestCovered}
-use Rattle.ground.specs.declared.quantities.MetresPerHour.{MetresPerHour}
-use Rattle.ground.specs.declared.quantities.SignedMetresPerHour.{SignedMetresPerHour}
-use Rattle.ground.specs.declared.quantities.UncertaintySpeed.{UncertaintySpeed}
-use Rattle.ground.specs.declared.quantities.UncertaintySpeed.the-variants.{Speed, Missing}
-use Rattle.ground.specs.declared.codes.HorizontalSpeedCode.{HorizontalSpeedCode}
-use Rattle.ground.specs.declared.codes.VerticalSpeedCode.{VerticalSpeedCode}
-use Rattle.ground.specs.declared.codes.UncertaintySpeedCode.{UncertaintySpeedCode}
+use Rattle.ground.specs.declared.quantity.MetresPerHour.{MetresPerHour}
+use Rattle.ground.specs.declared.quantity.SignedMetresPerHour.{SignedMetresPerHour}
+use Rattle.ground.specs.declared.quantity.UncertaintySpeed.{UncertaintySpeed}
+use Rattle.ground.specs.declared.quantity.UncertaintySpeed.the-variants.{Speed, Missing}
+use Rattle.ground.specs.declared.code.HorizontalSpeedCode.{HorizontalSpeedCode}
+use Rattle.ground.specs.declared.code.VerticalSpeedCode.{VerticalSpeedCode}
+use Rattle.ground.specs.declared.code.UncertaintySpeedCode.{UncertaintySpeedCode}
 use Rattle.speeds.specs.declared.UncertaintySpeedCoded.{UncertaintySpeedCoded}
 use Rattle.speeds.specs.declared.UncertaintySpeedCoded.the-variants.{Code, Refused}
 use Rattle.ground.specs.Steps.{SpeedStep}

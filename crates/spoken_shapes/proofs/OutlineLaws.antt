@@ -6,9 +6,9 @@ use mathlib.Core.List.{List}
 use native.Mathlib.Omega.{arith}
 use lib.ListN.{replicate}
 use Rattle.ground.specs.Answers.{done}
-use Rattle.ground.specs.declared.quantities.Nanodegrees.{Nanodegrees}
+use Rattle.ground.specs.declared.quantity.Nanodegrees.{Nanodegrees}
 use Rattle.fields.specs.Fields.{Reporting}
-use Rattle.layout.specs.declared.shapes.Shape.{Shape}
+use Rattle.layout.specs.declared.shape.Shape.{Shape}
 use Rattle.layout.specs.Layout.{Field, shapeRows}
 use Rattle.layout.specs.Layout as layout
 use Rattle.layout.specs.Rows.{widthOf}
@@ -16,7 +16,7 @@ use Rattle.layout.specs.Demands.{Used}
 use Rattle.layout.specs.Shapes.{rowsOf, zeroLatitude, zeroLongitude}
 use Rattle.layout.proofs.KindLaws.{pointsOf, fixed-width}
 use Rattle.trips.proofs.WidthLaws.{shapeWidest, shape-width}
-use Rattle.quantities.specs.declared.shapes.ShapeQuantities.{ShapeQuantities}
+use Rattle.quantities.specs.declared.shape.ShapeQuantities.{ShapeQuantities}
 use Rattle.quantities.specs.Places.{
   Place,
   latitude,

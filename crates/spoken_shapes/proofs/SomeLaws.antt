@@ -9,19 +9,19 @@ use lib.Dec.{ltb}
 use lib.ListN.{set, replicate}
 use borrow.Author.Tests.{ltb-true, ltb-false}
 use Rattle.ground.specs.Answers.{done}
-use Rattle.ground.specs.declared.codes.IncludedCode.{IncludedCode}
-use Rattle.ground.specs.declared.quantities.Millidegrees.{Millidegrees}
-use Rattle.ground.specs.declared.quantities.Nanodegrees.{Nanodegrees}
+use Rattle.ground.specs.declared.code.IncludedCode.{IncludedCode}
+use Rattle.ground.specs.declared.quantity.Millidegrees.{Millidegrees}
+use Rattle.ground.specs.declared.quantity.Nanodegrees.{Nanodegrees}
 use Rattle.fields.specs.Fields.{Reporting}
 use Rattle.fields.specs.Fields as field
 use Rattle.fields.specs.Quantities.{Held, quantityOf}
 use Rattle.fields.proofs.QuantityLaws.{quantity-reported}
-use Rattle.layout.specs.declared.shapes.Kind.{Kind}
-use Rattle.layout.specs.declared.shapes.Shape.{Shape}
+use Rattle.layout.specs.declared.shape.Kind.{Kind}
+use Rattle.layout.specs.declared.shape.Shape.{Shape}
 use Rattle.layout.specs.Layout.{shapeRows}
 use Rattle.layout.specs.Layout as layout
 use Rattle.layout.specs.Rows.{widthOf}
-use Rattle.quantities.specs.declared.shapes.ShapeQuantities.{ShapeQuantities}
+use Rattle.quantities.specs.declared.shape.ShapeQuantities.{ShapeQuantities}
 use Rattle.quantities.specs.Places.{
   Place,
   latitude,

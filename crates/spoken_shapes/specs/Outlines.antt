@@ -4,16 +4,16 @@ use Prim.Native.Nat.{_<_}
 use lib.ListN.{replicate}
 use lib.Signed.{mag}
 use Rattle.ground.specs.Answers.{done}
-use Rattle.ground.specs.declared.codes.IncludedCode.{IncludedCode}
-use Rattle.ground.specs.declared.quantities.Millidegrees.{Millidegrees}
+use Rattle.ground.specs.declared.code.IncludedCode.{IncludedCode}
+use Rattle.ground.specs.declared.quantity.Millidegrees.{Millidegrees}
 use Rattle.fields.specs.Fields.{Reporting}
 use Rattle.fields.specs.Fields as field
-use Rattle.layout.specs.declared.shapes.Kind.{Kind}
-use Rattle.layout.specs.declared.shapes.Shape.{Shape}
+use Rattle.layout.specs.declared.shape.Kind.{Kind}
+use Rattle.layout.specs.declared.shape.Shape.{Shape}
 use Rattle.layout.specs.Layout.{shapeRows}
 use Rattle.layout.specs.Layout as layout
 use Rattle.layout.specs.Demands.{Used}
-use Rattle.quantities.specs.declared.shapes.ShapeQuantities.{ShapeQuantities}
+use Rattle.quantities.specs.declared.shape.ShapeQuantities.{ShapeQuantities}
 use Rattle.quantities.specs.Places.{Unused, zeroQuantity}
 use Rattle.quantities.specs.Shapes.{zeroDegrees}
 

@@ -9,7 +9,7 @@ use lib.Dec.{T, leb, ltb, leb→le, ltb→lt}
 use lib.IntN.{ℤ, negsuc, natAbs}
 use borrow.Author.Needs.{needs}
 use Rattle.ground.specs.Answers.{done}
-use Rattle.ground.specs.declared.quantities.Confidence.the-variants.{Missing}
+use Rattle.ground.specs.declared.quantity.Confidence.the-variants.{Missing}
 use Rattle.ground.specs.Sets.{LeastCode}
 use Rattle.ground.proofs.SetLaws.{below-one}
 use Rattle.radii.specs.Covering.{Covers}
@@ -18,8 +18,8 @@ use Rattle.coordinates.specs.Latitude.{LatitudeSet}
 use Rattle.octets.specs.Codes.{fromComplement}
 use Rattle.fields.specs.Fields.{Coding}
 use Rattle.fields.specs.Fields as field
-use Rattle.layout.specs.declared.shapes.Kind.{Kind}
-use Rattle.layout.specs.declared.shapes.Kind.the-variants.{Circle, Ellipse}
+use Rattle.layout.specs.declared.shape.Kind.{Kind}
+use Rattle.layout.specs.declared.shape.Kind.the-variants.{Circle, Ellipse}
 use Rattle.requests.specs.declared.codes.Wanted.{Wanted}
 use Rattle.requests.specs.Ranges.{InRange, Covered}
 use Rattle.requests.specs.Choice.{Listed, writes}

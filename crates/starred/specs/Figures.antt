@@ -5,9 +5,9 @@ use Prim.Native.Nat.{ℕ, _≤_}
 use lib.ListN.{length, drop}
 use lib.IntN.{ℤ, pos, negsuc}
 use Rattle.ground.specs.Answers.{done}
-use Rattle.ground.specs.declared.quantities.Nanodegrees.{Nanodegrees}
-use Rattle.ground.specs.declared.codes.LatitudeCode.{LatitudeCode}
-use Rattle.ground.specs.declared.quantities.Confidence.the-variants.{Missing}
+use Rattle.ground.specs.declared.quantity.Nanodegrees.{Nanodegrees}
+use Rattle.ground.specs.declared.code.LatitudeCode.{LatitudeCode}
+use Rattle.ground.specs.declared.quantity.Confidence.the-variants.{Missing}
 use Rattle.requests.specs.declared.Request.{Request}
 use Rattle.requests.specs.declared.Altitude.the-variants as level
 use Rattle.requests.specs.declared.Horizontal.the-variants.{Ellipse}

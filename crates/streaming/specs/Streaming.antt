@@ -1,6 +1,8 @@
 -- What is kept of the input and of the answers. Assumes nothing.
 use mathlib.Core.Path.{_≡_}
-use Prim.Native.Nat.{ℕ, _+_, _≤_, min}
+use mathlib.Core.List.{List}
+use Prim.Native.Nat.{ℕ, _+_, _-_, _≤_, min}
+use lib.ListN.{take, drop}
 use Rattle.streaming.specs.declared.input.Input.{Input}
 use Rattle.streaming.specs.declared.output.Output.{Output}
 
@@ -24,6 +26,11 @@ pub record SoundOutput (o : Output) : Type 0 where
 pub record Emptied (before after : Output) : Type 0 where
   pub none-left : after .put ≡ 0
   pub same-lines : after .answered ≡ before .answered
+
+-- the octets from `at` to `fill` stand at the start, and what stands behind as many places is as it was
+pub record Shifted (before : List ℕ) (at fill : ℕ) (after : List ℕ) : Type 0 where
+  pub moved : take (fill - at) after ≡ take (fill - at) (drop at before)
+  pub rest : drop (fill - at) after ≡ drop (fill - at) before
 
 -- one line more, at most what 64 bits can count
 abbrev pub oneMore : ℕ → ℕ

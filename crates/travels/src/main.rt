@@ -1,8 +1,8 @@
 // Codes quantities and reports the record, over stored cases, a line each: `shape` and `velocity` with a type's number and the
 // quantities, `-` for a missing one. Prints the line's number, the answer, and on 0 the message of the record and the
 // quantities that it reports, in the order of the line; `-` for what can't be read. tests/travels.py works out what must be printed.
-mod fields;
 mod forms;
+mod line_fields;
 mod shape_cases;
 mod velocity_cases;
 

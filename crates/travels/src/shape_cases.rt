@@ -1,5 +1,5 @@
 // Cases of shapes.
-use crate::fields;
+use crate::line_fields;
 use cases::Text;
 use ground::Confidence;
 use ground::Millidegrees;
@@ -13,25 +13,25 @@ use quantities::ShapeQuantities;
 
 // The quantities of a case: the type's number, the count, the quantities of the single point's shapes, the points.
 pub fn shape_in(case: &[u8]) -> ShapeQuantities {
-    let kind = layout::kind_of(fields::octet_at(case, 0));
-    let confidence = fields::confidence_at(case, 10);
-    let latitudes = fields::coordinates_at(case, 14);
-    let longitudes = fields::coordinates_at(case, 15);
+    let kind = layout::kind_of(line_fields::octet_at(case, 0));
+    let confidence = line_fields::confidence_at(case, 10);
+    let latitudes = line_fields::coordinates_at(case, 14);
+    let longitudes = line_fields::coordinates_at(case, 15);
     ShapeQuantities {
         kind,
-        latitude: fields::coordinate_at(case, 2),
-        longitude: fields::coordinate_at(case, 3),
-        altitude: SignedMillimetres(fields::signed_at(case, 4)),
-        uncertainty: Millimetres(fields::natural_at(case, 5)),
-        semi_major: Millimetres(fields::natural_at(case, 6)),
-        semi_minor: Millimetres(fields::natural_at(case, 7)),
-        orientation: Millidegrees(fields::natural_at(case, 8)),
-        altitude_uncertainty: Millimetres(fields::natural_at(case, 9)),
+        latitude: line_fields::coordinate_at(case, 2),
+        longitude: line_fields::coordinate_at(case, 3),
+        altitude: SignedMillimetres(line_fields::signed_at(case, 4)),
+        uncertainty: Millimetres(line_fields::natural_at(case, 5)),
+        semi_major: Millimetres(line_fields::natural_at(case, 6)),
+        semi_minor: Millimetres(line_fields::natural_at(case, 7)),
+        orientation: Millidegrees(line_fields::natural_at(case, 8)),
+        altitude_uncertainty: Millimetres(line_fields::natural_at(case, 9)),
         confidence,
-        inner_radius: Millimetres(fields::natural_at(case, 11)),
-        offset: Millidegrees(fields::natural_at(case, 12)),
-        included: Millidegrees(fields::natural_at(case, 13)),
-        count: fields::octet_at(case, 1),
+        inner_radius: Millimetres(line_fields::natural_at(case, 11)),
+        offset: Millidegrees(line_fields::natural_at(case, 12)),
+        included: Millidegrees(line_fields::natural_at(case, 13)),
+        count: line_fields::octet_at(case, 1),
         latitudes,
         longitudes,
     }

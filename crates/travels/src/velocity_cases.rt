@@ -1,5 +1,5 @@
 // Cases of velocities.
-use crate::fields;
+use crate::line_fields;
 use cases::Text;
 use ground::MetresPerHour;
 use ground::Millidegrees;
@@ -11,14 +11,14 @@ use quantities::VelocityQuantities;
 
 // The quantities of a case, after the type's number.
 pub fn velocity_in(case: &[u8]) -> VelocityQuantities {
-    let kind = layout::velocity_kind_of(fields::octet_at(case, 0));
-    let uncertainty = fields::uncertainty_speed_at(case, 4);
-    let vertical_uncertainty = fields::uncertainty_speed_at(case, 5);
+    let kind = layout::velocity_kind_of(line_fields::octet_at(case, 0));
+    let uncertainty = line_fields::uncertainty_speed_at(case, 4);
+    let vertical_uncertainty = line_fields::uncertainty_speed_at(case, 5);
     VelocityQuantities {
         kind,
-        bearing: Millidegrees(fields::natural_at(case, 1)),
-        horizontal_speed: MetresPerHour(fields::natural_at(case, 2)),
-        vertical_speed: SignedMetresPerHour(fields::signed_at(case, 3)),
+        bearing: Millidegrees(line_fields::natural_at(case, 1)),
+        horizontal_speed: MetresPerHour(line_fields::natural_at(case, 2)),
+        vertical_speed: SignedMetresPerHour(line_fields::signed_at(case, 3)),
         uncertainty,
         vertical_uncertainty,
     }

@@ -8,12 +8,12 @@ use lib.Dec.{ltb}
 use lib.ListN.{length, getD, length-append, List·getD-append, List·getD-eq-default}
 use lib.Seq.{getD-at, ext-getD}
 use borrow.Author.Tests.{ltb-true, ltb-false}
-use Rattle.ground.specs.declared.codes.LatitudeCode.{LatitudeCode}
-use Rattle.ground.specs.declared.codes.LongitudeCode.{LongitudeCode}
+use Rattle.ground.specs.declared.code.LatitudeCode.{LatitudeCode}
+use Rattle.ground.specs.declared.code.LongitudeCode.{LongitudeCode}
 use Rattle.octets.specs.Codes.{bitOf, signOf, complement, fromComplement}
 use Rattle.octets.proofs.ComplementLaws.{complement-again, complement-back}
-use Rattle.layout.specs.declared.shapes.Kind.{Kind}
-use Rattle.layout.specs.declared.shapes.Shape.{Shape}
+use Rattle.layout.specs.declared.shape.Kind.{Kind}
+use Rattle.layout.specs.declared.shape.Shape.{Shape}
 use Rattle.layout.specs.Layout.{
   Field,
   typeNumber,

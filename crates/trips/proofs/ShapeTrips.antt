@@ -10,10 +10,10 @@ use Rattle.ground.specs.declared.refusals.Outcome.the-variants.{Done}
 use Rattle.octets.specs.Bits.{bits}
 use Rattle.octets.proofs.BitLaws.{bits-lt}
 use Rattle.layout.specs.declared.Written.{Written}
-use Rattle.layout.specs.declared.shapes.Kind.{Kind}
-use Rattle.layout.specs.declared.shapes.Kind.the-variants.{Nothing, Point, Circle, Ellipse, Polygon, AltitudePoint, AltitudeEllipsoid, Arc}
-use Rattle.layout.specs.declared.shapes.Shape.{Shape}
-use Rattle.layout.specs.declared.shapes.ShapeRead.{ShapeRead}
+use Rattle.layout.specs.declared.shape.Kind.{Kind}
+use Rattle.layout.specs.declared.shape.Kind.the-variants.{Nothing, Point, Circle, Ellipse, Polygon, AltitudePoint, AltitudeEllipsoid, Arc}
+use Rattle.layout.specs.declared.shape.Shape.{Shape}
+use Rattle.layout.specs.declared.shape.ShapeRead.{ShapeRead}
 use Rattle.layout.specs.Layout.{Field, Row, typeNumber, count, south, latitude, longitude, shapeRows, typeOf}
 use Rattle.layout.specs.Rows.{tag, read, lengthOf, message, spareZero}
 use Rattle.layout.specs.Demands.{Listed, WriteAnswer}

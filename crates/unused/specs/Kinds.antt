@@ -1,7 +1,7 @@
 -- Which quantities a kind of shape uses, from the layout table. Assumes nothing.
 use mathlib.Core.Bool.{Bool}
 use lib.Dec.{ltb}
-use Rattle.layout.specs.declared.shapes.Kind.{Kind}
+use Rattle.layout.specs.declared.shape.Kind.{Kind}
 use Rattle.layout.specs.Layout.{Field, latitude, altitude, uncertainty, semiMajor, altitudeUncertainty, confidence, innerRadius, count, shapeRows}
 use Rattle.layout.specs.Rows.{widthOf}
 use Rattle.unused.specs.declared.Uses.{Uses}

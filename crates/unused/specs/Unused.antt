@@ -2,12 +2,12 @@
 use mathlib.Core.Path.{_≡_}
 use mathlib.Core.Bool.{Bool, false}
 use Prim.Native.Nat.{ℕ}
-use Rattle.ground.specs.declared.quantities.Nanodegrees.{Nanodegrees}
-use Rattle.ground.specs.declared.quantities.SignedMillimetres.{SignedMillimetres}
-use Rattle.ground.specs.declared.quantities.Confidence.{Confidence}
+use Rattle.ground.specs.declared.quantity.Nanodegrees.{Nanodegrees}
+use Rattle.ground.specs.declared.quantity.SignedMillimetres.{SignedMillimetres}
+use Rattle.ground.specs.declared.quantity.Confidence.{Confidence}
 use Rattle.fields.specs.Fields as field
 use Rattle.quantities.specs.Places.{zeroQuantity}
-use Rattle.quantities.specs.declared.shapes.ShapeQuantities.{ShapeQuantities}
+use Rattle.quantities.specs.declared.shape.ShapeQuantities.{ShapeQuantities}
 use Rattle.unused.specs.declared.Uses.{Uses}
 
 abbrev pub IdleNumber : Bool → ℕ → Type 0

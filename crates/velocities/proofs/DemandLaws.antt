@@ -1,8 +1,8 @@
 -- What is demanded of a velocity's numbers: of its codes the bearing's alone. Assumes nothing.
 use Prim.Native.Nat.{ℕ, _<_}
 use native.Mathlib.Omega.{arith}
-use Rattle.layout.specs.declared.velocities.VelocityKind.{VelocityKind}
-use Rattle.layout.specs.declared.velocities.VelocityKind.the-variants.{Nothing, Horizontal, HorizontalVertical, HorizontalUncertain, HorizontalVerticalUncertain}
+use Rattle.layout.specs.declared.velocity.VelocityKind.{VelocityKind}
+use Rattle.layout.specs.declared.velocity.VelocityKind.the-variants.{Nothing, Horizontal, HorizontalVertical, HorizontalUncertain, HorizontalVerticalUncertain}
 use Rattle.layout.specs.Layout.{Field, bearing, velocityRows}
 use Rattle.layout.specs.Demands.{Listed, CountSound, AnglesSound, ConfidenceSound}
 

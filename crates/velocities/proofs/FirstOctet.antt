@@ -4,7 +4,7 @@ use mathlib.Core.Path.{_≡_, ap, _∙_}
 use mathlib.Core.List.{List}
 use Rattle.octets.specs.Bits.{bits}
 use Rattle.octets.proofs.BitLaws.{bits-high}
-use Rattle.layout.specs.declared.velocities.VelocityKind.{VelocityKind}
+use Rattle.layout.specs.declared.velocity.VelocityKind.{VelocityKind}
 use Rattle.layout.specs.Velocities.{velocityKindOf, velocityKindIn}
 
 module _ (s : List ℕ) (first : ℕ) (e : first ≡ bits s 0 8) where

@@ -10,10 +10,10 @@ use Rattle.ground.specs.declared.refusals.Refusal.the-variants.{AngleCode}
 use Rattle.ground.specs.declared.refusals.Outcome.{Outcome}
 use Rattle.ground.specs.declared.refusals.Outcome.the-variants.{Done, Refused}
 use Rattle.ground.proofs.AnswerLaws.{not-0, when-done, unless-as}
-use Rattle.layout.specs.declared.velocities.VelocityKind.{VelocityKind}
-use Rattle.layout.specs.declared.velocities.VelocityKind.the-variants.{Nothing}
-use Rattle.layout.specs.declared.velocities.Velocity.{Velocity}
-use Rattle.layout.specs.declared.velocities.VelocityRead.{VelocityRead}
+use Rattle.layout.specs.declared.velocity.VelocityKind.{VelocityKind}
+use Rattle.layout.specs.declared.velocity.VelocityKind.the-variants.{Nothing}
+use Rattle.layout.specs.declared.velocity.Velocity.{Velocity}
+use Rattle.layout.specs.declared.velocity.VelocityRead.{VelocityRead}
 use Rattle.layout.specs.Layout.{bearing, velocityRows}
 use Rattle.layout.specs.Rows.{read}
 use Rattle.layout.specs.Demands.{Listed, ReadAnswer}

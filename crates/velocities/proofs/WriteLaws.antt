@@ -3,7 +3,7 @@ use Prim.Native.Nat.{ℕ, _<_, _≤_}
 use native.Mathlib.Omega.{arith}
 use Rattle.ground.specs.Answers.{Unless, Else0, unmet, met}
 use Rattle.ground.proofs.AnswerLaws.{when-done}
-use Rattle.layout.specs.declared.velocities.Velocity.{Velocity}
+use Rattle.layout.specs.declared.velocity.Velocity.{Velocity}
 use Rattle.layout.specs.Rows.{lengthOf}
 use Rattle.layout.specs.Demands.{Listed}
 use Rattle.carrying.specs.Carrying.{rowsOf, VelocityInFields, Storable}

@@ -4,9 +4,9 @@ use Prim.Native.Nat.{ℕ}
 use Rattle.ground.specs.Answers.{Unless, Else0}
 use Rattle.ground.specs.declared.refusals.Refusal.{Refusal}
 use Rattle.ground.specs.declared.refusals.Outcome.the-variants.{Refused}
-use Rattle.layout.specs.declared.velocities.VelocityKind.{VelocityKind}
-use Rattle.layout.specs.declared.velocities.VelocityKind.the-variants.{Nothing}
-use Rattle.layout.specs.declared.velocities.VelocityRead.{VelocityRead}
+use Rattle.layout.specs.declared.velocity.VelocityKind.{VelocityKind}
+use Rattle.layout.specs.declared.velocity.VelocityKind.the-variants.{Nothing}
+use Rattle.layout.specs.declared.velocity.VelocityRead.{VelocityRead}
 use Rattle.layout.specs.Layout.{velocityRows}
 use Rattle.layout.specs.Rows.{lengthOf}
 use Rattle.layout.specs.Demands.{Listed}

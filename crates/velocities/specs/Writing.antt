@@ -2,7 +2,7 @@
 use mathlib.Core.Path.{_≡_}
 use mathlib.Core.Bool.{Bool, false}
 use Prim.Native.Nat.{ℕ}
-use Rattle.layout.specs.declared.velocities.Velocity.{Velocity}
+use Rattle.layout.specs.declared.velocity.Velocity.{Velocity}
 use Rattle.layout.specs.Demands.{WriteAnswer}
 use Rattle.layout.specs.Velocities.{velocityValueOf}
 use Rattle.carrying.specs.Carrying.{rowsOf}

@@ -2,7 +2,7 @@
 use mathlib.Core.Path.{_≡_}
 use Prim.Native.Nat.{ℕ}
 use Rattle.ground.specs.Answers.{numberOf, done, Unless}
-use Rattle.ground.specs.declared.codes.OrientationCode.{OrientationCode}
+use Rattle.ground.specs.declared.code.OrientationCode.{OrientationCode}
 use Rattle.fields.specs.Fields.{orientation, Coding}
 use Rattle.angles.specs.declared.OrientationCoded.{OrientationCoded}
 use Rattle.angles.specs.declared.OrientationCoded.the-variants as turn

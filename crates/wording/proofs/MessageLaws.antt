@@ -10,10 +10,10 @@ use Rattle.ground.specs.declared.refusals.Outcome.{Outcome}
 use Rattle.ground.specs.declared.refusals.Outcome.the-variants.{Done, Refused}
 use Rattle.ground.proofs.AnswerLaws.{refusal-back}
 use Rattle.text.specs.Text.{decimal}
-use Rattle.layout.specs.declared.shapes.ShapeRead.{ShapeRead}
-use Rattle.layout.specs.declared.shapes.Kind.the-variants as shape
-use Rattle.layout.specs.declared.velocities.VelocityRead.{VelocityRead}
-use Rattle.layout.specs.declared.velocities.VelocityKind.the-variants as velocity
+use Rattle.layout.specs.declared.shape.ShapeRead.{ShapeRead}
+use Rattle.layout.specs.declared.shape.Kind.the-variants as shape
+use Rattle.layout.specs.declared.velocity.VelocityRead.{VelocityRead}
+use Rattle.layout.specs.declared.velocity.VelocityKind.the-variants as velocity
 use Rattle.layout.specs.Layout.{Row}
 use Rattle.layout.specs.Demands.{ReadAnswer}
 use Rattle.layout.specs.Shapes.{rowsIn, shapeIn, blankShape, ReadsShape}

@@ -3,8 +3,8 @@
 use mathlib.Core.List.{List, [], _∷_, _++_}
 use Prim.Native.Nat.{ℕ}
 use lib.IntN.{ℤ, pos}
-use Rattle.ground.specs.declared.quantities.UncertaintySpeed.the-variants as uncertain
-use Rattle.ground.specs.declared.quantities.Confidence.the-variants as confident
+use Rattle.ground.specs.declared.quantity.UncertaintySpeed.the-variants as uncertain
+use Rattle.ground.specs.declared.quantity.Confidence.the-variants as confident
 use Rattle.text.specs.Text.{decimal, signedDecimal}
 use Rattle.fields.specs.Fields.{CodeOf, QuantityOf}
 use Rattle.fields.specs.Fields as field

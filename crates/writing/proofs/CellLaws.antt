@@ -16,14 +16,14 @@ use denote.Laws.{Is}
 use denote.Shadow.{shadow}
 use denote.Struct.Declared.{row}
 use Rattle.ground.specs.Answers.{unmet}
-use Rattle.ground.specs.declared.codes.LatitudeCode.{LatitudeCode}
-use Rattle.ground.specs.declared.codes.LongitudeCode.{LongitudeCode}
-use Rattle.ground.proofs.codes.LongitudeCode.{the-field}
+use Rattle.ground.specs.declared.code.LatitudeCode.{LatitudeCode}
+use Rattle.ground.specs.declared.code.LongitudeCode.{LongitudeCode}
+use Rattle.ground.proofs.code.LongitudeCode.{the-field}
 use Rattle.octets.specs.Codes.{bitOf, complement}
 use Rattle.layout.specs.declared.Written.{Written}
-use Rattle.layout.specs.declared.shapes.Kind.{Kind}
-use Rattle.layout.specs.declared.shapes.Kind.the-variants.{Nothing, Point, Circle, Ellipse, Polygon, AltitudePoint, AltitudeEllipsoid, Arc}
-use Rattle.layout.specs.declared.shapes.Shape.{Shape}
+use Rattle.layout.specs.declared.shape.Kind.{Kind}
+use Rattle.layout.specs.declared.shape.Kind.the-variants.{Nothing, Point, Circle, Ellipse, Polygon, AltitudePoint, AltitudeEllipsoid, Arc}
+use Rattle.layout.specs.declared.shape.Shape.{Shape}
 use Rattle.layout.specs.Layout.{
   Field,
   typeNumber,
@@ -54,7 +54,7 @@ use Rattle.layout.specs.Layout.{
 }
 use Rattle.layout.specs.Demands.{Listed, WriteAnswer, Writes}
 use Rattle.layout.specs.Shapes.{kindOf, valueOf, rowsOf, zeroLatitude, zeroLongitude, WritesShape}
-use Rattle.layout.proofs.shapes.Shape.{the-type}
+use Rattle.layout.proofs.shape.Shape.{the-type}
 use Rattle.cells.specs.Codes.{cellAt, fromBits, bitsOf}
 use Rattle.code_cells.specs.Shapes.{singleCells, pointCells, shapeCells, rowsIn, valueIn}
 use Rattle.code_cells.proofs.PointLaws.{length-points}

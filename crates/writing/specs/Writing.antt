@@ -1,6 +1,6 @@
 -- What writing a record answers, given room for its message. Assumes nothing.
 use Prim.Native.Nat.{ℕ}
-use Rattle.layout.specs.declared.shapes.Shape.{Shape}
+use Rattle.layout.specs.declared.shape.Shape.{Shape}
 use Rattle.layout.specs.Rows.{lengthOf}
 use Rattle.layout.specs.Demands.{WriteAnswer}
 use Rattle.layout.specs.Shapes.{rowsOf, valueOf}

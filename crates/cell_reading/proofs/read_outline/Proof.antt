@@ -6,7 +6,7 @@ use native.Mathlib.Omega.{arith}
 use lib.ListN.{replicate}
 use lib.Seq.{sets}
 use Rattle.ground.specs.declared.refusals.Outcome.the-variants.{Done}
-use Rattle.layout.specs.declared.shapes.Shape.{Shape}
+use Rattle.layout.specs.declared.shape.Shape.{Shape}
 use Rattle.forming.proofs.ReadLaws.{of-length, codes-refused, done-read}
 use Rattle.cell_reading.proofs.IntoLaws.{refused-into, short-into, put-into, uncounted}
 use borrow.Author.Needs.{needs}

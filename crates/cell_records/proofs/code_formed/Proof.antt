@@ -10,7 +10,7 @@ use borrow.Author.Needs.{needs}
 use borrow.Author.Tests.{not-true, not-false}
 use Rattle.ground.specs.declared.refusals.Outcome.the-variants.{Done}
 use Rattle.ground.proofs.AnswerLaws.{shown, refuted}
-use Rattle.quantities.specs.declared.shapes.ShapeQuantities.{ShapeQuantities}
+use Rattle.quantities.specs.declared.shape.ShapeQuantities.{ShapeQuantities}
 use Rattle.quantities.specs.Promises.{InRange}
 use Rattle.quantities.specs.Shapes.{quantityAt, quantityRows, CodesShape}
 use Rattle.unused.specs.Kinds.{usesOf}

@@ -8,8 +8,8 @@ use lib.ListN.{length}
 use denote.Ref.{now}
 use Rattle.octets.specs.Bits.{bits}
 use Rattle.octets.proofs.BitLaws.{bits-lt}
-use Rattle.layout.specs.declared.shapes.Kind.{Kind}
-use Rattle.layout.specs.declared.shapes.Kind.the-variants.{Point, Circle, Ellipse, Polygon, AltitudePoint, AltitudeEllipsoid, Arc}
+use Rattle.layout.specs.declared.shape.Kind.{Kind}
+use Rattle.layout.specs.declared.shape.Kind.the-variants.{Point, Circle, Ellipse, Polygon, AltitudePoint, AltitudeEllipsoid, Arc}
 use Rattle.layout.proofs.PolygonLaws.{polygon-length}
 use Rattle.fetching.specs.Fetching.{OfLength, recordOf, polygonOf}
 use Rattle.fetching.proofs.PolygonRecord.{polygon-record}

@@ -1,7 +1,7 @@
 -- Each kind's answer, by the law of its kind.
 use mathlib.Core.Path.{refl}
 use native.Mathlib.Omega.{arith}
-use Rattle.layout.specs.declared.shapes.Kind.the-variants.{Point, Circle, Ellipse, Polygon, AltitudePoint, AltitudeEllipsoid, Arc}
+use Rattle.layout.specs.declared.shape.Kind.the-variants.{Point, Circle, Ellipse, Polygon, AltitudePoint, AltitudeEllipsoid, Arc}
 use Rattle.forming.proofs.AnswerKinds.{of-kind, nothing, by-length}
 use borrow.Author.Needs.{needs}
 use Rattle.forming.proofs.form.Statement.{statement}

@@ -43,7 +43,7 @@ same-length c = search needs
 returns : tie.Need-returns
 returns c =
     refilled (c .before .before .before .before .before .before .before .before .before .before .before .before .args .buf .now) (c .before .before .before .before .before .before .before .before .before .shift .last .0) (c .before .before .before .before .before .read .last .1 .0) (c .before .before .before .before .before .before .before .before .before .before .before .before .args .held) (c .count .result)
-    (c .before .before .before .before .before .before .before .before .before .before .before .before .pre) (c .before .before .before .before .before .before .before .before .before .shift .kept .0) (c .before .before .before .before .before .before .before .before .before .shift .ensures) (c .count .ensures .0 .0)
+    (c .before .before .before .before .before .before .before .before .before .before .before .before .pre) (c .before .before .before .before .before .before .before .before .before .shift .kept .0) (c .before .before .before .before .before .before .before .before .before .shift .ensures .moved) (c .count .ensures .0 .0)
 
 pub refill-spec : {M : Type 1} → statement M
 refill-spec =

@@ -5,7 +5,7 @@ use mathlib.Core.Bool.{Bool}
 use mathlib.Core.Path.{_≡_}
 use native.Mathlib.Omega.{arith}
 use denote.Ref.{now}
-use Rattle.ground.specs.declared.codes.AltitudeCode.{AltitudeCode}
+use Rattle.ground.specs.declared.code.AltitudeCode.{AltitudeCode}
 use Rattle.octets.specs.Bits.{bits}
 use Rattle.octets.proofs.BitLaws.{bits-high, bits-low}
 use Rattle.octets.proofs.altitude_at.Statement.{statement}

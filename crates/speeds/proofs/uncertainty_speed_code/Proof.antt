@@ -2,7 +2,7 @@
 use mathlib.Core.Path.{refl, subst⁻¹}
 use Prim.Native.Nat.{_+_, _/_}
 use borrow.Author.Needs.{needs}
-use Rattle.ground.specs.declared.quantities.UncertaintySpeed.{UncertaintySpeed}
+use Rattle.ground.specs.declared.quantity.UncertaintySpeed.{UncertaintySpeed}
 use Rattle.speeds.specs.Speeds.{UncertaintySpeedCodes, TooFast}
 use Rattle.speeds.proofs.uncertainty_speed_code.Statement.{statement}
 use Rattle.speeds.proofs.uncertainty_speed_code.Tie as tie

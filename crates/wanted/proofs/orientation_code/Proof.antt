@@ -1,8 +1,8 @@
 use mathlib.Core.Path.{refl}
 use Prim.Native.Nat.{_≤_}
 use native.Mathlib.Omega.{arith}
-use Rattle.ground.specs.declared.quantities.Millimetres.{Millimetres}
-use Rattle.ground.specs.declared.quantities.Millidegrees.{Millidegrees}
+use Rattle.ground.specs.declared.quantity.Millimetres.{Millimetres}
+use Rattle.ground.specs.declared.quantity.Millidegrees.{Millidegrees}
 use Rattle.fields.specs.Fields.{orientation}
 use Rattle.angles.specs.Angles.{CodedOrientation}
 use Rattle.angles.specs.declared.OrientationCoded.{OrientationCoded}

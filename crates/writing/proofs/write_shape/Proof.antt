@@ -4,7 +4,7 @@ use mathlib.Core.List.{[], _∷_}
 use borrow.Author.Needs.{needs}
 use native.Mathlib.Omega.{arith}
 use types.Run.{miss}
-use Rattle.layout.specs.declared.shapes.Kind.the-variants.{Nothing}
+use Rattle.layout.specs.declared.shape.Kind.the-variants.{Nothing}
 use Rattle.writing.proofs.CellLaws.{no-kind, held, writes-said}
 use Rattle.writing.proofs.write_shape.Statement.{statement}
 use Rattle.writing.proofs.write_shape.Tie as tie

@@ -1,6 +1,6 @@
 -- The numeral is the field's.
 use mathlib.Core.Path.{subst}
-use Rattle.numerals.specs.declared.numerals.Numeral.{Numeral}
+use Rattle.numerals.specs.declared.numeral.Numeral.{Numeral}
 use Rattle.numerals.specs.Widths.{AsSigned64}
 use borrow.Author.Needs.{needs}
 use Rattle.asking.proofs.amounts.coordinate_of.Statement.{statement}

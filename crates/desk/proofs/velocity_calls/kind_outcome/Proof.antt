@@ -2,7 +2,7 @@
 use mathlib.Core.Path.{refl, subst⁻¹}
 use native.Mathlib.Omega.{arith}
 use Rattle.ground.specs.Answers.{unmet, met}
-use Rattle.layout.specs.declared.velocities.VelocityKind.{VelocityKind}
+use Rattle.layout.specs.declared.velocity.VelocityKind.{VelocityKind}
 use Rattle.desk.specs.Promises.{KindAnswer}
 use borrow.Author.Needs.{needs}
 use Rattle.desk.proofs.velocity_calls.kind_outcome.Statement.{statement}

@@ -5,10 +5,10 @@ use borrow.Author.Needs.{needs}
 use native.Mathlib.Omega.{arith}
 use lib.ListN.{set}
 use denote.Ref.{now}
-use Rattle.ground.specs.declared.codes.LatitudeCode.{LatitudeCode}
-use Rattle.ground.specs.declared.codes.LongitudeCode.{LongitudeCode}
+use Rattle.ground.specs.declared.code.LatitudeCode.{LatitudeCode}
+use Rattle.ground.specs.declared.code.LongitudeCode.{LongitudeCode}
 use Rattle.octets.specs.Codes.{fromComplement, latitudeIn, longitudeIn}
-use Rattle.layout.specs.declared.shapes.Kind.the-variants.{Polygon}
+use Rattle.layout.specs.declared.shape.Kind.the-variants.{Polygon}
 use Rattle.layout.specs.Shapes.{blankShape, zeroLatitude, zeroLongitude}
 use Rattle.fetching.specs.Fetching.{pointed, latitudesOf, longitudesOf}
 use Rattle.fetching.proofs.Filling.{fill}

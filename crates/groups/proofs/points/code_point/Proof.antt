@@ -3,7 +3,7 @@ use mathlib.Core.Path.{refl, ap}
 use borrow.Author.Needs.{needs}
 use mir.Syntax.{w64}
 use mir.Val.{ofZ}
-use Rattle.ground.specs.declared.quantities.Nanodegrees.{Nanodegrees}
+use Rattle.ground.specs.declared.quantity.Nanodegrees.{Nanodegrees}
 use Rattle.quantities.proofs.TestLaws.{never, degrees-zero}
 use Rattle.groups.proofs.points.code_point.Statement.{statement}
 use Rattle.groups.proofs.points.code_point.Tie as tie

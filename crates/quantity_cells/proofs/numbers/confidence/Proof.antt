@@ -1,5 +1,5 @@
 -- `quantity_cells::confidence` meets its contract: none where the cell is missing, else its number. Assumes nothing.
-use Rattle.ground.specs.declared.quantities.Confidence.the-variants as confident
+use Rattle.ground.specs.declared.quantity.Confidence.the-variants as confident
 use Rattle.quantity_cells.proofs.CellLaws.{absent, present}
 use borrow.Author.Needs.{needs}
 use Rattle.quantity_cells.proofs.numbers.confidence.Statement.{statement}

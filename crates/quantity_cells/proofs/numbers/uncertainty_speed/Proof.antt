@@ -1,6 +1,6 @@
 -- `quantity_cells::uncertainty_speed` meets its contract: none where the cell is missing, else its number. Assumes nothing.
 use Prim.Native.Nat.{ℕ}
-use Rattle.ground.specs.declared.quantities.UncertaintySpeed.the-variants as uncertain
+use Rattle.ground.specs.declared.quantity.UncertaintySpeed.the-variants as uncertain
 use Rattle.quantity_cells.proofs.CellLaws.{absent, present}
 use borrow.Author.Needs.{needs}
 use Rattle.quantity_cells.proofs.numbers.uncertainty_speed.Statement.{statement}

@@ -2,7 +2,7 @@
 use mathlib.Core.Path.{refl}
 use native.Mathlib.Omega.{arith}
 use Rattle.ground.specs.Answers.{unmet, met}
-use Rattle.layout.specs.declared.shapes.Kind.the-variants.{Point, Circle, Ellipse, AltitudePoint, AltitudeEllipsoid, Arc}
+use Rattle.layout.specs.declared.shape.Kind.the-variants.{Point, Circle, Ellipse, AltitudePoint, AltitudeEllipsoid, Arc}
 use Rattle.records.proofs.FormLaws.{nothing-form, plain-form, polygon-form}
 use borrow.Author.Needs.{needs}
 use Rattle.records.proofs.kinds.form.Statement.{statement}

@@ -51,7 +51,7 @@ same-length c = search needs
 returns : tie.Need-returns Inv-loop μ-loop
 returns c =
     let e : c .before .loop .i ≡ c .before .before .args .fill - c .before .before .args .at = omega arith in
-    rw e at (c .before .loop .inv .2)
+    record { moved = rw e at (c .before .loop .inv .2); rest = rw e at (c .before .loop .inv .3) }
 
 pub shift-spec : {M : Type 1} → statement M
 shift-spec =

@@ -4,8 +4,8 @@ use mathlib.Core.Path.{_≡_, sym, subst}
 use mathlib.Core.Bool.{Bool, true}
 use Rattle.ground.specs.Answers.{Decides}
 use Rattle.ground.proofs.AnswerLaws.{decided}
-use Rattle.layout.specs.declared.velocities.VelocityKind.{VelocityKind}
-use Rattle.layout.specs.declared.velocities.Velocity.{Velocity}
+use Rattle.layout.specs.declared.velocity.VelocityKind.{VelocityKind}
+use Rattle.layout.specs.declared.velocity.Velocity.{Velocity}
 use Rattle.layout.specs.Layout.{velocityRows}
 use Rattle.layout.specs.Demands.{InFields}
 use Rattle.layout.specs.Velocities.{velocityValueOf}

@@ -1,0 +1,17 @@
+-- `cells::capped_octet` meets its contract: a number over the largest is the largest. Assumes nothing.
+use Rattle.cells.proofs.NumberLaws.{over, under}
+use borrow.Author.Needs.{needs}
+use Rattle.cells.proofs.code.capped_octet.Statement.{statement}
+use Rattle.cells.proofs.code.capped_octet.Tie as tie
+
+returns : tie.Need-returns
+returns c = over (c .if1 .taken)
+
+cast-result : tie.Need-cast-result
+cast-result c = search needs
+
+returns-2 : tie.Need-returns-2
+returns-2 c = under (c .if1 .left)
+
+pub capped-octet-spec : {M : Type 1} → statement M
+capped-octet-spec = tie.close (tie.spec returns cast-result returns-2)

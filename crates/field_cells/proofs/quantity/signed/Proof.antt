@@ -1,0 +1,38 @@
+-- `quantities::signed` meets its contract: there are two cells, and the first is a bit. Assumes nothing.
+use native.Mathlib.Omega.{arith}
+use Rattle.field_cells.proofs.FieldLaws.{signed-short, no-sign, signed-told}
+use borrow.Author.Needs.{needs}
+use Rattle.field_cells.proofs.quantity.signed.Statement.{statement}
+use Rattle.field_cells.proofs.quantity.signed.Tie as tie
+
+returns : tie.Need-returns
+returns c = signed-short (c .before .before .args .field) (c .before .before .args .code .now) (omega arith)
+
+shared-slice-read-sign : tie.Need-shared-slice-read-sign
+shared-slice-read-sign c = search needs
+
+returns-2 : tie.Need-returns-2
+returns-2 c = no-sign (c .before .before .before .before .args .field) (c .before .before .before .before .args .code .now) (omega arith) (omega arith)
+
+shared-slice-read-reported-signed : tie.Need-shared-slice-read-reported-signed
+shared-slice-read-reported-signed c = search needs
+
+reported-signed-requires : tie.Need-reported-signed-requires
+reported-signed-requires c κs = search needs
+
+returns-3 : tie.Need-returns-3
+returns-3 c =
+    let given = c .before .before .before .before .before .before .args in
+    let reported-signed = c .reported-signed in
+    signed-told (given .field) (given .code .now) (reported-signed .result) (omega arith) (omega arith) (reported-signed .ensures)
+
+pub signed-spec : {M : Type 1} → statement M
+signed-spec =
+    tie.close
+    (tie.spec
+    returns
+    shared-slice-read-sign
+    returns-2
+    shared-slice-read-reported-signed
+    reported-signed-requires
+    returns-3)

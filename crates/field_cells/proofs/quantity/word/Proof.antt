@@ -1,0 +1,22 @@
+-- `quantities::word` meets its contract: there is a cell, and it holds the code. Assumes nothing.
+use native.Mathlib.Omega.{arith}
+use Rattle.field_cells.proofs.FieldLaws.{word-short, word-told}
+use borrow.Author.Needs.{needs}
+use Rattle.field_cells.proofs.quantity.word.Statement.{statement}
+use Rattle.field_cells.proofs.quantity.word.Tie as tie
+
+returns : tie.Need-returns
+returns c = word-short (c .before .before .args .field) (c .before .before .args .code .now) (omega arith)
+
+shared-slice-read-reported-word : tie.Need-shared-slice-read-reported-word
+shared-slice-read-reported-word c = search needs
+
+reported-word-requires : tie.Need-reported-word-requires
+reported-word-requires c κs = search needs
+
+returns-2 : tie.Need-returns-2
+returns-2 c = word-told (c .before .before .before .before .args .field) (c .before .before .before .before .args .code .now) (c .reported-word .result) (omega arith) (c .reported-word .ensures)
+
+pub word-spec : {M : Type 1} → statement M
+word-spec =
+    tie.close (tie.spec returns shared-slice-read-reported-word reported-word-requires returns-2)
