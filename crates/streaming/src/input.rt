@@ -1,9 +1,11 @@
 // Lines of standard input, where the block that was read has them. A line of more than 4096 octets is not kept.
 use crate::block;
 ghost use mathlib.Core.Path.{_≡_};
+ghost use mathlib.Core.Bool.{false};
 ghost use Prim.Native.Nat.{_≤_};
-ghost use lib.ListN.{length};
-ghost use Rattle.streaming.specs.Streaming.{SoundInput, Cuts};
+ghost use lib.ListN.{length, take};
+ghost use Rattle.numerals.specs.Marks.{FirstMark};
+ghost use Rattle.streaming.specs.Streaming.{SoundInput, Cuts, Cut, LastLine, Goes, NextLine};
 
 const LONGEST_LINE: usize = 4096;
 
@@ -38,7 +40,7 @@ pub fn no_input() -> Input
 // Goes on to the next line. The end of the input ends a last line, too.
 pub fn next_line(block: &mut [u8; 65536], before: Input) -> Input
     requires { ⌜ SoundInput before ⌝ }
-    ensures { λ r. ⌜ SoundInput r ⌝ }
+    ensures { λ r. ⌜ NextLine (now (block .exit)) r ⌝ }
 {
     let mut input = before;
     input.long = false;
@@ -62,33 +64,44 @@ pub fn next_line(block: &mut [u8; 65536], before: Input) -> Input
 fn newline(block: &[u8], input: Input) -> usize
     requires { ⌜ length (now block) ≡ 65536 ⌝ }
     requires { ⌜ SoundInput input ⌝ }
-    ensures { λ r. ⌜ (input .taken ≤ r) × (r ≤ input .read) ⌝ }
+    ensures { λ r. ⌜ FirstMark 10 (take (input .read) (now (block .entry))) (input .taken) r ⌝ }
 {
     let read = input.read;
     numerals::line_end(&block[0..read], input.taken)
 }
 
 // The line up to `end`; what is taken goes up to `taken`.
-fn cut(before: Input, end: usize, taken: usize) -> Input
-    requires { ⌜ SoundInput before ⌝ }
-    requires { ⌜ Cuts before end taken ⌝ }
-    ensures { λ r. ⌜ SoundInput r ⌝ }
+fn cut(input: Input, end: usize, taken: usize) -> Input
+    requires { ⌜ SoundInput input ⌝ }
+    requires { ⌜ Cuts input end taken ⌝ }
+    ensures { λ r. ⌜ Cut input end taken r ⌝ }
 {
-    let mut input = before;
-    if LONGEST_LINE < end - input.taken {
-        input.long = true;
+    let from = input.taken;
+    Input {
+        taken,
+        read: input.read,
+        over: input.over,
+        from,
+        end,
+        long: is_long(input.long, end - from),
+        ready: true,
     }
-    input.from = input.taken;
-    input.end = end;
-    input.taken = taken;
-    input.ready = true;
-    input
+}
+
+// Whether a line of which that much is held, and perhaps more was dropped, is longer than the longest.
+fn is_long(dropped: bool, size: usize) -> bool
+    ensures { λ r. ⌜ (r ≡ false → size ≤ 4096) ⌝ }
+{
+    if dropped {
+        return true;
+    }
+    LONGEST_LINE < size
 }
 
 // What is left at the end of the input is a line, unless it is nothing.
 fn last_line(input: Input) -> Input
     requires { ⌜ SoundInput input ⌝ }
-    ensures { λ r. ⌜ SoundInput r ⌝ }
+    ensures { λ r. ⌜ LastLine input r ⌝ }
 {
     let read = input.read;
     if input.long {
@@ -103,7 +116,7 @@ fn last_line(input: Input) -> Input
 // A line that is already longer than the longest is dropped, as far as it was read.
 fn shortened(before: Input) -> Input
     requires { ⌜ SoundInput before ⌝ }
-    ensures { λ r. ⌜ SoundInput r ⌝ }
+    ensures { λ r. ⌜ Goes before r ⌝ }
 {
     let mut input = before;
     if LONGEST_LINE < input.read - input.taken {
@@ -117,7 +130,7 @@ fn shortened(before: Input) -> Input
 fn refilled(octets: &mut [u8], before: Input) -> Input
     requires { ⌜ length (now octets) ≡ 65536 ⌝ }
     requires { ⌜ SoundInput before ⌝ }
-    ensures { λ r. ⌜ SoundInput r ⌝ }
+    ensures { λ r. ⌜ Goes before r ⌝ }
 {
     let mut input = before;
     let taken = input.taken;
