@@ -53,9 +53,15 @@ pub record Line (block : List ℕ) (i : Input) : Type 0 where
   pub ended : Ended block i
   pub short : i .long ≡ false → i .end - i .from ≤ 4096
 
+-- what next_line hands back: a line, or none
 pub record NextLine (block : List ℕ) (r : Input) : Type 0 where
   pub sound : SoundInput r
   pub line : r .ready ≡ true → Line block r
+
+-- the octets from `at` to `fill` stand at the start, and what stands behind as many places is as it was
+pub record Shifted (before : List ℕ) (at fill : ℕ) (after : List ℕ) : Type 0 where
+  pub moved : take (fill - at) after ≡ take (fill - at) (drop at before)
+  pub rest : drop (fill - at) after ≡ drop (fill - at) before
 
 pub record SoundOutput (o : Output) : Type 0 where
   pub answers : o .put ≤ 65536
@@ -64,11 +70,6 @@ pub record SoundOutput (o : Output) : Type 0 where
 pub record Emptied (before after : Output) : Type 0 where
   pub none-left : after .put ≡ 0
   pub same-lines : after .answered ≡ before .answered
-
--- the octets from `at` to `fill` stand at the start, and what stands behind as many places is as it was
-pub record Shifted (before : List ℕ) (at fill : ℕ) (after : List ℕ) : Type 0 where
-  pub moved : take (fill - at) after ≡ take (fill - at) (drop at before)
-  pub rest : drop (fill - at) after ≡ drop (fill - at) before
 
 -- one line more, at most what 64 bits can count
 abbrev pub oneMore : ℕ → ℕ

@@ -104,7 +104,8 @@ fn put_four(out: &mut [u8], at: usize, n: u64) -> usize
     at + 4
 }
 
-// The digits of four pairs, each in its octet, the first lowest.
+// The digits of four pairs, each in its octet, the first lowest: 48 in each octet, and a pair's tens and 256 times its units, which is
+// 256 times the pair less 2559 times its tens.
 fn digits_of(pairs: u64) -> u64
     requires { ⌜ FourPairs pairs ⌝ }
     ensures { λ r. ⌜ Digits pairs r ⌝ }
@@ -112,7 +113,7 @@ fn digits_of(pairs: u64) -> u64
     3472328296227680304 + 256 * pairs - 2559 * tens_of(pairs)
 }
 
-// The tens of four pairs, each in its sixteen bits.
+// The tens of four pairs, each in its sixteen bits: 103/1024 of a number below 100, and 103 times one fits sixteen bits.
 fn tens_of(pairs: u64) -> u64
     requires { ⌜ FourPairs pairs ⌝ }
     ensures { λ r. ⌜ Tens pairs r ⌝ }
@@ -124,7 +125,8 @@ fn tens_of(pairs: u64) -> u64
         + 281474976710656 * (scaled / 281474976710656 % 65536 / 1024)
 }
 
-// The four pairs of eight digits, each in sixteen bits, the first lowest.
+// The four pairs of eight digits, each in sixteen bits, the first lowest. The hundreds of a number below 10000 are 5243/524288 of it,
+// found for both halves at once; 65536 times a half less 6553599 times its hundreds is its hundreds and 65536 times the rest.
 fn pairs_of(n: u64) -> u64
     requires { ⌜ n < 100000000 ⌝ }
     ensures { λ r. ⌜ r ≡ pairs n ⌝ }
