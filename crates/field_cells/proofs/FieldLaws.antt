@@ -1,14 +1,12 @@
 -- A quantity in a cell is of its field's width or of none, and a code's cells say one code or none. Assumes nothing.
 use mathlib.Core.Path.{_≡_, refl, sym, ap, _∙_}
-use mathlib.Core.Bool.{Bool, true, false}
 use mathlib.Core.List.{List}
-use Prim.Native.Nat.{ℕ, _+_, _≤_, _<_}
+use Prim.Native.Nat.{ℕ, _≤_, _<_}
 use native.Mathlib.Omega.{arith}
 use lib.IntN.{ℤ, pos, negsuc}
 use lib.ListN.{length}
 use lib.Signed.{mag}
-use lib.Dec.{ltb}
-use borrow.Author.Tests.{ltb-true, ltb-false, lt-ltb}
+use borrow.Author.Tests.{lt-ltb}
 use Rattle.ground.specs.declared.refusals.Refusal.the-variants.{OutOfRange, WrongLength}
 use Rattle.ground.specs.declared.quantity.UncertaintySpeed.{UncertaintySpeed}
 use Rattle.ground.specs.declared.quantity.UncertaintySpeed.the-variants as uncertain
@@ -117,17 +115,3 @@ pub signed-told : (f : Signed) (cells : List ℕ) (r : Told) → 2 ≤ length ce
 signed-told signed.Latitude cells r h b t = reported (record { both = h; bit = b; sign = refl; number = refl }) t
 signed-told signed.Altitude cells r h b t = reported (record { both = h; bit = b; sign = refl; number = refl }) t
 signed-told signed.VerticalSpeed cells r h b t = reported (record { both = h; bit = b; sign = refl; number = refl }) t
-
--- ---- a number that is no field's
-
-next : (k n : ℕ) → k ≤ n → (n ≡ k → ⊥) → 1 + k ≤ n
-next k n h z = by (ltb k n) refl
-  where
-    by : (t : Bool) → ltb k n ≡ t → 1 + k ≤ n
-    by true e = omega (arith, ltb-true k n e)
-    by false e = let q : n ≡ k = omega (arith, ltb-false k n e) in absurd (z q)
-
--- it is none of 0 to 13
-pub past-fields : (n : ℕ) → (n ≡ 0 → ⊥) → (n ≡ 1 → ⊥) → (n ≡ 2 → ⊥) → (n ≡ 3 → ⊥) → (n ≡ 4 → ⊥) → (n ≡ 5 → ⊥) → (n ≡ 6 → ⊥) → (n ≡ 7 → ⊥) → (n ≡ 8 → ⊥) → (n ≡ 9 → ⊥) → (n ≡ 10 → ⊥) → (n ≡ 11 → ⊥) → (n ≡ 12 → ⊥) → (n ≡ 13 → ⊥) → 14 ≤ n
-past-fields n a b c d e f g h i j k l m o =
-    next 13 n (next 12 n (next 11 n (next 10 n (next 9 n (next 8 n (next 7 n (next 6 n (next 5 n (next 4 n (next 3 n (next 2 n (next 1 n (next 0 n (omega arith) a) b) c) d) e) f) g) h) i) j) k) l) m) o

@@ -2,9 +2,11 @@
 use mathlib.Core.Path.{_≡_, refl, sym, subst, _∙_}
 use mathlib.Core.Bool.{Bool, true, false}
 use mathlib.Core.List.{List}
-use Prim.Native.Nat.{ℕ}
+use Prim.Native.Nat.{ℕ, _<_}
+use native.Mathlib.Omega.{arith}
 use lib.Dec.{T}
 use lib.IntN.{ℤ}
+use Rattle.ground.proofs.MatchLaws.{Passed, passed}
 use Rattle.ground.specs.declared.quantity.UncertaintySpeed.{UncertaintySpeed}
 use Rattle.ground.specs.declared.quantity.UncertaintySpeed.the-variants as uncertain
 use Rattle.ground.specs.declared.quantity.Confidence.{Confidence}
@@ -79,18 +81,21 @@ unsigned-uncoded unsigned.Confidence text h = λ d. unwritten confidence text (n
 
 -- ---- a place that is no field's
 
-pub past-fields : (n : ℕ) → (n ≡ 0 → ⊥) → (n ≡ 1 → ⊥) → (n ≡ 2 → ⊥) → (n ≡ 3 → ⊥) → (n ≡ 4 → ⊥) → (n ≡ 5 → ⊥) → (n ≡ 6 → ⊥) → (n ≡ 7 → ⊥) → (n ≡ 8 → ⊥) → (n ≡ 9 → ⊥) → (n ≡ 10 → ⊥) → (n ≡ 11 → ⊥) → (n ≡ 12 → ⊥) → (n ≡ 13 → ⊥) → (f : Field) → placeOf f ≡ n → ⊥
-past-fields n a b c d e g h i j k l m o p latitude z = a (sym z)
-past-fields n a b c d e g h i j k l m o p longitude z = b (sym z)
-past-fields n a b c d e g h i j k l m o p uncertainty z = c (sym z)
-past-fields n a b c d e g h i j k l m o p altitudeUncertainty z = d (sym z)
-past-fields n a b c d e g h i j k l m o p altitude z = e (sym z)
-past-fields n a b c d e g h i j k l m o p innerRadius z = g (sym z)
-past-fields n a b c d e g h i j k l m o p offset z = h (sym z)
-past-fields n a b c d e g h i j k l m o p included z = i (sym z)
-past-fields n a b c d e g h i j k l m o p orientation z = j (sym z)
-past-fields n a b c d e g h i j k l m o p bearing z = k (sym z)
-past-fields n a b c d e g h i j k l m o p horizontalSpeed z = l (sym z)
-past-fields n a b c d e g h i j k l m o p verticalSpeed z = m (sym z)
-past-fields n a b c d e g h i j k l m o p uncertaintySpeed z = o (sym z)
-past-fields n a b c d e g h i j k l m o p confidence z = p (sym z)
+place-below : (f : Field) → placeOf f < 14
+place-below latitude = omega arith
+place-below longitude = omega arith
+place-below uncertainty = omega arith
+place-below altitudeUncertainty = omega arith
+place-below altitude = omega arith
+place-below innerRadius = omega arith
+place-below offset = omega arith
+place-below included = omega arith
+place-below orientation = omega arith
+place-below bearing = omega arith
+place-below horizontalSpeed = omega arith
+place-below verticalSpeed = omega arith
+place-below uncertaintySpeed = omega arith
+place-below confidence = omega arith
+
+pub past-fields : (n : ℕ) → Passed 14 n → (f : Field) → placeOf f ≡ n → ⊥
+past-fields n p f e = omega (arith, passed 14 n p, place-below f)

@@ -2,3 +2,4 @@ pub mod SignLaws
 pub mod SetLaws
 pub mod AnswerLaws
 pub mod ListLaws
+pub mod MatchLaws

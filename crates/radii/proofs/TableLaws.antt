@@ -8,7 +8,7 @@ use native.Mathlib.Omega.{arith}
 use lib.ListN.{getD}
 use Rattle.ground.specs.Sets.{LeastCode, GreatestCovered}
 use Rattle.radii.specs.Covering.{Covers}
-use Rattle.radii.specs.Tables.{Rising, FirstAt}
+use Rattle.rows.specs.Tables.{Rising, FirstAt}
 use Rattle.radii.proofs.CoverLaws.{covers-up, covers-from, covers-none}
 
 -- f at i, i + 1, .., n numbers in all

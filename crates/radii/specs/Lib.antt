@@ -1,3 +1,2 @@
 pub mod Covering
 pub mod Radii
-pub mod Tables

@@ -1,6 +1,5 @@
 // Uncertainty codes and their reported radii: K covers every whole millimetre up to r(K), or h(K) for an altitude
-// (document 01, "Quantities and codes"). A function that uses a table lays it on the stack first, so zero, which is also what a type
-// without the field has, is answered before such a function is called.
+// (document 01, "Quantities and codes").
 mod tables;
 
 use ground::AltitudeUncertaintyCode;
@@ -30,20 +29,11 @@ pub enum RadiusReported {
 pub fn uncertainty_code(radius: Millimetres) -> UncertaintyCoded
     ensures { λ r. ⌜ CodedUncertainty radius r ⌝ }
 {
-    if radius.0 == 0 {
-        return UncertaintyCoded::Code(UncertaintyCode(0));
-    }
-    found_in_radii(radius)
-}
-
-fn found_in_radii(radius: Millimetres) -> UncertaintyCoded
-    ensures { λ r. ⌜ CodedUncertainty radius r ⌝ }
-{
     let x = radius.0;
     if RADII[127] < x {
         return UncertaintyCoded::Refused(Refusal::UncertaintyTooLarge);
     }
-    UncertaintyCoded::Code(UncertaintyCode(tables::first_at_least(&RADII, x) as u8))
+    UncertaintyCoded::Code(UncertaintyCode(rows::first_at_least(&RADII, x) as u8))
 }
 
 pub fn reported_uncertainty(code: UncertaintyCode) -> RadiusReported
@@ -53,31 +43,17 @@ pub fn reported_uncertainty(code: UncertaintyCode) -> RadiusReported
     if 127 < radius_k {
         return RadiusReported::Refused(Refusal::OutOfRange);
     }
-    if radius_k == 0 {
-        return RadiusReported::Radius(Millimetres(0));
-    }
-    RadiusReported::Radius(Millimetres(RADII[radius_k as usize]))
+    RadiusReported::Radius(Millimetres(rows::entry(&RADII, radius_k as usize)))
 }
 
 pub fn altitude_uncertainty_code(height: Millimetres) -> AltitudeUncertaintyCoded
-    ensures { λ r. ⌜ CodedAltitudeUncertainty height r ⌝ }
-{
-    if height.0 == 0 {
-        return AltitudeUncertaintyCoded::Code(AltitudeUncertaintyCode(0));
-    }
-    found_in_heights(height)
-}
-
-fn found_in_heights(height: Millimetres) -> AltitudeUncertaintyCoded
     ensures { λ r. ⌜ CodedAltitudeUncertainty height r ⌝ }
 {
     let x = height.0;
     if HEIGHTS[127] < x {
         return AltitudeUncertaintyCoded::Refused(Refusal::UncertaintyTooLarge);
     }
-    AltitudeUncertaintyCoded::Code(AltitudeUncertaintyCode(
-        tables::first_at_least(&HEIGHTS, x) as u8,
-    ))
+    AltitudeUncertaintyCoded::Code(AltitudeUncertaintyCode(rows::first_at_least(&HEIGHTS, x) as u8))
 }
 
 pub fn reported_altitude_uncertainty(code: AltitudeUncertaintyCode) -> RadiusReported
@@ -87,8 +63,5 @@ pub fn reported_altitude_uncertainty(code: AltitudeUncertaintyCode) -> RadiusRep
     if 127 < height_k {
         return RadiusReported::Refused(Refusal::OutOfRange);
     }
-    if height_k == 0 {
-        return RadiusReported::Radius(Millimetres(0));
-    }
-    RadiusReported::Radius(Millimetres(HEIGHTS[height_k as usize]))
+    RadiusReported::Radius(Millimetres(rows::entry(&HEIGHTS, height_k as usize)))
 }

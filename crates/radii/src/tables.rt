@@ -1,8 +1,4 @@
-// The two tables of whole millimetres, and the one search that serves both.
-ghost use Prim.Native.Nat.{_-_, _≤_};
-ghost use lib.ListN.{getD};
-ghost use Rattle.radii.specs.Tables.{Rising, FirstAt, Among, Halving};
-
+// The two tables of whole millimetres.
 // The whole part of 10000·((11/10)^K - 1) millimetres, for K from 0 to 127.
 pub const RADII: [u32; 128] = [
     0,
@@ -266,30 +262,3 @@ pub const HEIGHTS: [u32; 128] = [
     965228,
     990484,
 ];
-
-// The first place of a rising table whose entry is at least x, which the last one is: the places left, 127 and itself, are
-// halved seven times, with no branch for the processor to guess.
-pub fn first_at_least(table: &[u32; 128], x: u32) -> usize
-    requires { ⌜ Rising (now table) × (x ≤ getD (now table) 127 0) ⌝ }
-    ensures { λ r. ⌜ FirstAt (now (table .entry)) x r ⌝ }
-{
-    let of_127 = halved(table, x, 0, 64);
-    let of_63 = halved(table, x, of_127, 32);
-    let of_31 = halved(table, x, of_63, 16);
-    let of_15 = halved(table, x, of_31, 8);
-    let of_7 = halved(table, x, of_15, 4);
-    let of_3 = halved(table, x, of_7, 2);
-    halved(table, x, of_3, 1)
-}
-
-// From the place and the 2·half - 1 after it, one of which is the first, to the half that has it.
-fn halved(table: &[u32; 128], x: u32, place: usize, half: usize) -> usize
-    requires { ⌜ Rising (now table) × Halving (now table) x place half ⌝ }
-    ensures { λ r. ⌜ Among (now (table .entry)) x r (half - 1) ⌝ }
-{
-    let next = place + half;
-    if table[next - 1] < x {
-        return next;
-    }
-    place
-}

@@ -2,9 +2,9 @@
 use mathlib.Core.Path.{refl, sym}
 use mir.Syntax.{w64}
 use mir.Facts.{toZ-ofZ}
+use Rattle.ground.proofs.MatchLaws.{passed}
 use Rattle.fields.specs.Fields.{latitude, longitude, uncertainty, altitudeUncertainty, altitude, innerRadius, offset, included, orientation, bearing, horizontalSpeed, verticalSpeed, uncertaintySpeed, confidence}
 use Rattle.field_cells.specs.Fields.{coded, no-field, of-field}
-use Rattle.field_cells.proofs.FieldLaws.{past-fields}
 use borrow.Author.Needs.{needs}
 use Rattle.field_cells.proofs.code.coded.Statement.{statement}
 use Rattle.field_cells.proofs.code.coded.Tie as tie
@@ -94,7 +94,7 @@ returns-14 : tie.Need-returns-14
 returns-14 c = of-field {f = confidence} (sym (c .before .match .keys14)) (c .confidence .ensures)
 
 returns-15 : tie.Need-returns-15
-returns-15 c = let r = c .match .rest in no-field (past-fields _ (r .0 .0 .0 .0 .0 .0 .0 .0 .0 .0 .0 .0 .0 .1) (r .0 .0 .0 .0 .0 .0 .0 .0 .0 .0 .0 .0 .1) (r .0 .0 .0 .0 .0 .0 .0 .0 .0 .0 .0 .1) (r .0 .0 .0 .0 .0 .0 .0 .0 .0 .0 .1) (r .0 .0 .0 .0 .0 .0 .0 .0 .0 .1) (r .0 .0 .0 .0 .0 .0 .0 .0 .1) (r .0 .0 .0 .0 .0 .0 .0 .1) (r .0 .0 .0 .0 .0 .0 .1) (r .0 .0 .0 .0 .0 .1) (r .0 .0 .0 .0 .1) (r .0 .0 .0 .1) (r .0 .0 .1) (r .0 .1) (r .1)) refl
+returns-15 c = no-field (passed 14 _ (c .match .rest)) refl
 
 pub coded-spec : {M : Type 1} → statement M
 coded-spec =

@@ -1,8 +1,8 @@
 -- `quantities::reported` meets its contract: each number is a field's, from 14 on none. Assumes nothing.
 use mathlib.Core.Path.{refl, sym}
+use Rattle.ground.proofs.MatchLaws.{passed}
 use Rattle.fields.specs.Fields.{latitude, longitude, uncertainty, altitudeUncertainty, altitude, innerRadius, offset, included, orientation, bearing, horizontalSpeed, verticalSpeed, uncertaintySpeed, confidence}
 use Rattle.field_cells.specs.Fields.{no-field, of-field}
-use Rattle.field_cells.proofs.FieldLaws.{past-fields}
 use borrow.Author.Needs.{needs}
 use Rattle.field_cells.proofs.quantity.reported.Statement.{statement}
 use Rattle.field_cells.proofs.quantity.reported.Tie as tie
@@ -92,7 +92,7 @@ returns-14 : tie.Need-returns-14
 returns-14 c = of-field {f = confidence} (sym (c .before .match .keys14)) (c .byte7 .ensures)
 
 returns-15 : tie.Need-returns-15
-returns-15 c = let r = c .match .rest in no-field (past-fields _ (r .0 .0 .0 .0 .0 .0 .0 .0 .0 .0 .0 .0 .0 .1) (r .0 .0 .0 .0 .0 .0 .0 .0 .0 .0 .0 .0 .1) (r .0 .0 .0 .0 .0 .0 .0 .0 .0 .0 .0 .1) (r .0 .0 .0 .0 .0 .0 .0 .0 .0 .0 .1) (r .0 .0 .0 .0 .0 .0 .0 .0 .0 .1) (r .0 .0 .0 .0 .0 .0 .0 .0 .1) (r .0 .0 .0 .0 .0 .0 .0 .1) (r .0 .0 .0 .0 .0 .0 .1) (r .0 .0 .0 .0 .0 .1) (r .0 .0 .0 .0 .1) (r .0 .0 .0 .1) (r .0 .0 .1) (r .0 .1) (r .1)) refl
+returns-15 c = no-field (passed 14 _ (c .match .rest)) refl
 
 pub reported-spec : {M : Type 1} → statement M
 reported-spec =

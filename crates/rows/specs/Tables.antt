@@ -1,6 +1,6 @@
--- A table of 128 numbers, searched. Assumes nothing.
+-- A table of 128 numbers, and the first of its places at which it is at least x. Assumes nothing.
 use mathlib.Core.List.{List}
-use Prim.Native.Nat.{ℕ, _+_, _*_, _-_, _≤_, _<_}
+use Prim.Native.Nat.{ℕ, _+_, _≤_, _<_}
 use lib.ListN.{getD}
 
 abbrev pub Rising : List ℕ → Type 0
@@ -14,8 +14,3 @@ pub record Among (xs : List ℕ) (x k more : ℕ) : Type 0 where
 
 abbrev pub FirstAt : List ℕ → ℕ → ℕ → Type 0
 FirstAt xs x k = Among xs x k 0
-
--- it is among 2·half places
-pub record Halving (xs : List ℕ) (x k half : ℕ) : Type 0 where
-  pub some : 1 ≤ half
-  pub among : Among xs x k (2 * half - 1)

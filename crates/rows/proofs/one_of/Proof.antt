@@ -1,0 +1,16 @@
+-- `rows::one_of` meets its contract: a place below 2 that is not 0 is 1. Assumes nothing.
+use mathlib.Core.Path.{_≡_}
+use Prim.Native.Nat.{ℕ}
+use native.Mathlib.Omega.{arith}
+use borrow.Author.Needs.{needs}
+use Rattle.rows.proofs.one_of.Statement.{statement}
+use Rattle.rows.proofs.one_of.Tie as tie
+
+returns : tie.Need-returns
+returns c = search needs
+
+returns-2 : tie.Need-returns-2
+returns-2 c = let second : c .before .args .place ≡ 1 = omega arith in rw second
+
+pub one-of-spec : {M : Type 1} → statement M
+one-of-spec = tie.close (tie.spec returns returns-2)
