@@ -1,2 +1,3 @@
 pub mod Covering
 pub mod Radii
+pub mod Tables

@@ -8,6 +8,7 @@ use ground::Refusal;
 use ground::UncertaintyCode;
 use tables::HEIGHTS;
 use tables::RADII;
+use tables::Table;
 ghost use Rattle.radii.specs.Radii.{CodedUncertainty, ReportedUncertainty, CodedAltitudeUncertainty, ReportedAltitudeUncertainty};
 
 pub enum UncertaintyCoded {
@@ -33,7 +34,7 @@ pub fn uncertainty_code(radius: Millimetres) -> UncertaintyCoded
     if RADII[127] < x {
         return UncertaintyCoded::Refused(Refusal::UncertaintyTooLarge);
     }
-    UncertaintyCoded::Code(UncertaintyCode(rows::first_at_least(&RADII, x) as u8))
+    UncertaintyCoded::Code(UncertaintyCode(tables::first_at_least(Table::Radii, x) as u8))
 }
 
 pub fn reported_uncertainty(code: UncertaintyCode) -> RadiusReported
@@ -43,7 +44,7 @@ pub fn reported_uncertainty(code: UncertaintyCode) -> RadiusReported
     if 127 < radius_k {
         return RadiusReported::Refused(Refusal::OutOfRange);
     }
-    RadiusReported::Radius(Millimetres(rows::entry(&RADII, radius_k as usize)))
+    RadiusReported::Radius(Millimetres(tables::entry(Table::Radii, radius_k as usize)))
 }
 
 pub fn altitude_uncertainty_code(height: Millimetres) -> AltitudeUncertaintyCoded
@@ -53,7 +54,9 @@ pub fn altitude_uncertainty_code(height: Millimetres) -> AltitudeUncertaintyCode
     if HEIGHTS[127] < x {
         return AltitudeUncertaintyCoded::Refused(Refusal::UncertaintyTooLarge);
     }
-    AltitudeUncertaintyCoded::Code(AltitudeUncertaintyCode(rows::first_at_least(&HEIGHTS, x) as u8))
+    AltitudeUncertaintyCoded::Code(AltitudeUncertaintyCode(
+        tables::first_at_least(Table::Heights, x) as u8,
+    ))
 }
 
 pub fn reported_altitude_uncertainty(code: AltitudeUncertaintyCode) -> RadiusReported
@@ -63,5 +66,5 @@ pub fn reported_altitude_uncertainty(code: AltitudeUncertaintyCode) -> RadiusRep
     if 127 < height_k {
         return RadiusReported::Refused(Refusal::OutOfRange);
     }
-    RadiusReported::Radius(Millimetres(rows::entry(&HEIGHTS, height_k as usize)))
+    RadiusReported::Radius(Millimetres(tables::entry(Table::Heights, height_k as usize)))
 }

@@ -1,4 +1,17 @@
-// The two tables of whole millimetres.
+// The two tables of whole millimetres, and the one search that serves both.
+use rows::Row;
+ghost use mathlib.Core.Path.{_≡_};
+ghost use Prim.Native.Nat.{_*_, _-_, _≤_, _<_};
+ghost use lib.ListN.{getD};
+ghost use Rattle.rows.specs.Rows.{IsRow};
+ghost use Rattle.rows.specs.Tables.{Among, FirstAt};
+ghost use Rattle.radii.specs.Tables.{Halving, entriesIn};
+
+pub enum Table {
+    Radii,
+    Heights,
+}
+
 // The whole part of 10000·((11/10)^K - 1) millimetres, for K from 0 to 127.
 pub const RADII: [u32; 128] = [
     0,
@@ -262,3 +275,49 @@ pub const HEIGHTS: [u32; 128] = [
     965228,
     990484,
 ];
+
+// The entry at a place.
+pub fn entry(table: Table, place: usize) -> u32
+    requires { ⌜ place < 128 ⌝ }
+    ensures { λ r. ⌜ r ≡ getD (entriesIn table) place 0 ⌝ }
+{
+    rows::in_row(row_of(table, place / 8), place % 8)
+}
+
+// The first place whose entry is at least x, which the last one is: the sixteen rows are halved four times, and in the row that is left
+// the place is as many of its entries as are below x. There is no branch for the processor to guess.
+pub fn first_at_least(table: Table, x: u32) -> usize
+    requires { ⌜ x ≤ getD (entriesIn table) 127 0 ⌝ }
+    ensures { λ r. ⌜ FirstAt (entriesIn table) x r ⌝ }
+{
+    let of_15 = halved(table, x, 0, 8);
+    let of_7 = halved(table, x, of_15, 4);
+    let of_3 = halved(table, x, of_7, 2);
+    let row = halved(table, x, of_3, 1);
+    8 * row + rows::below_in(row_of(table, row), x)
+}
+
+// From the row and the 2·half - 1 after it, one of which has the first place, to the half that has it.
+fn halved(table: Table, x: u32, row: usize, half: usize) -> usize
+    requires { ⌜ Halving (entriesIn table) x row half ⌝ }
+    ensures { λ r. ⌜ Among (entriesIn table) x (8 * r) (8 * half - 1) ⌝ }
+{
+    let next = row + half;
+    let last = row_of(table, next - 1);
+    if last.7 < x {
+        return next;
+    }
+    row
+}
+
+// The table is a constant here, and each place of a row is one in `rows`: so the compiler keeps both tables beside the code, where it
+// would lay one that it knows only at run time on the stack.
+fn row_of(table: Table, row: usize) -> Row
+    requires { ⌜ row < 16 ⌝ }
+    ensures { λ r. ⌜ IsRow (entriesIn table) (8 * row) r ⌝ }
+{
+    match table {
+        Table::Radii => rows::row_of(&RADII, row),
+        Table::Heights => rows::row_of(&HEIGHTS, row),
+    }
+}

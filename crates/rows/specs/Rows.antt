@@ -1,17 +1,11 @@
--- Its rows of eight, and how many of some numbers are below x. Assumes nothing.
+-- Rows of eight of a table's entries, and how many of some numbers are below x. Assumes nothing.
 use mathlib.Core.Path.{_≡_}
 use mathlib.Core.Bool.{Bool, true, false}
 use mathlib.Core.List.{List, [], _∷_}
-use Prim.Native.Nat.{ℕ, _+_, _*_, _-_, _≤_}
+use Prim.Native.Nat.{ℕ, _+_, _≤_}
 use lib.Dec.{ltb}
 use lib.ListN.{getD}
-use Rattle.rows.specs.Tables.{Among}
 use Rattle.rows.specs.declared.Row.{Row}
-
--- the first place is in one of the 2·half rows from a row on
-pub record Halving (xs : List ℕ) (x row half : ℕ) : Type 0 where
-  pub some : 1 ≤ half
-  pub among : Among xs x (8 * row) (16 * half - 1)
 
 abbrev pub entriesOf : Row → List ℕ
 entriesOf r = r .0 ∷ r .1 ∷ r .2 ∷ r .3 ∷ r .4 ∷ r .5 ∷ r .6 ∷ r .7 ∷ []

@@ -1,52 +1,25 @@
-// A table of 128 numbers in rows of eight: its entry at a place that is known only at run time, and the first place of a rising one whose
-// entry is at least a number. The places of a row are constants, so the compiler keeps a constant table beside the code.
+// A table of 128 numbers in rows of eight.
 ghost use mathlib.Core.Path.{_≡_};
 ghost use mathlib.Core.List.{[], _∷_};
-ghost use Prim.Native.Nat.{_+_, _*_, _-_, _≤_, _<_};
+ghost use Prim.Native.Nat.{_+_, _*_, _≤_, _<_};
 ghost use lib.ListN.{getD};
-ghost use Rattle.rows.specs.Tables.{Rising, FirstAt, Among};
-ghost use Rattle.rows.specs.Rows.{Halving, IsRow, entriesOf, below, TellsBelow};
+ghost use Rattle.rows.specs.Rows.{IsRow, entriesOf, below, TellsBelow};
 
 // Eight entries of a table, one after the other.
-pub struct Row(u32, u32, u32, u32, u32, u32, u32, u32);
-
-// The entry at a place that is known only at run time.
-pub fn entry(table: &[u32; 128], place: usize) -> u32
-    requires { ⌜ place < 128 ⌝ }
-    ensures { λ r. ⌜ r ≡ getD (now (table .entry)) place 0 ⌝ }
-{
-    in_row(row_of(table, place / 8), place % 8)
-}
-
-// The first place of a rising table whose entry is at least x, which the last one is: the sixteen rows are halved four times, and in
-// the row that is left the place is as many of its entries as are below x. There is no branch for the processor to guess.
-pub fn first_at_least(table: &[u32; 128], x: u32) -> usize
-    requires { ⌜ Rising (now table) × (x ≤ getD (now table) 127 0) ⌝ }
-    ensures { λ r. ⌜ FirstAt (now (table .entry)) x r ⌝ }
-{
-    let of_15 = halved(table, x, 0, 8);
-    let of_7 = halved(table, x, of_15, 4);
-    let of_3 = halved(table, x, of_7, 2);
-    let row = halved(table, x, of_3, 1);
-    8 * row + below_in(row_of(table, row), x)
-}
-
-// From the row and the 2·half - 1 after it, one of which has the first place, to the half that has it.
-fn halved(table: &[u32; 128], x: u32, row: usize, half: usize) -> usize
-    requires { ⌜ Rising (now table) × Halving (now table) x row half ⌝ }
-    ensures { λ r. ⌜ Among (now (table .entry)) x (8 * r) (8 * half - 1) ⌝ }
-{
-    let next = row + half;
-    let last = row_of(table, next - 1);
-    if last.7 < x {
-        return next;
-    }
-    row
-}
+pub struct Row(
+    pub u32,
+    pub u32,
+    pub u32,
+    pub u32,
+    pub u32,
+    pub u32,
+    pub u32,
+    pub u32,
+);
 
 // The row of that number. Each of its places is a constant here, so the compiler keeps the table beside the code; one that is read at
 // a place known only at run time would be laid on the stack at each call.
-fn row_of(table: &[u32; 128], row: usize) -> Row
+pub fn row_of(table: &[u32; 128], row: usize) -> Row
     requires { ⌜ row < 16 ⌝ }
     ensures { λ r. ⌜ IsRow (now (table .entry)) (8 * row) r ⌝ }
 {
@@ -88,7 +61,7 @@ fn row_at(table: &[u32; 128], first: usize) -> Row
 }
 
 // The entry at a place of a row: a half of the row, a half of that, and one of two, with no jump.
-fn in_row(row: Row, place: usize) -> u32
+pub fn in_row(row: Row, place: usize) -> u32
     requires { ⌜ place < 8 ⌝ }
     ensures { λ r. ⌜ r ≡ getD (entriesOf row) place 0 ⌝ }
 {
@@ -116,7 +89,7 @@ fn one_of(first: u32, second: u32, place: usize) -> u32
 }
 
 // How many of a row's entries are below x.
-fn below_in(row: Row, x: u32) -> usize
+pub fn below_in(row: Row, x: u32) -> usize
     ensures { λ r. ⌜ r ≡ below x (entriesOf row) ⌝ }
 {
     below_one(row.0, x)

@@ -1,13 +1,14 @@
--- `rows::entry` meets its contract: a place is its row's eight times the row, and the place in it. Assumes nothing.
+-- `radii::tables::entry` meets its contract: a place is its row's eight times the row, and the place in it. Assumes nothing.
 use mathlib.Core.Path.{ap, _∙_}
 use mathlib.Core.List.{List}
 use Prim.Native.Nat.{ℕ, _*_, _/_, _%_}
 use native.Mathlib.Omega.{arith}
 use lib.ListN.{getD}
 use Rattle.rows.proofs.RowLaws.{in-row}
+use Rattle.radii.specs.Tables.{entriesIn}
 use borrow.Author.Needs.{needs}
-use Rattle.rows.proofs.entry.Statement.{statement}
-use Rattle.rows.proofs.entry.Tie as tie
+use Rattle.radii.proofs.tables.entry.Statement.{statement}
+use Rattle.radii.proofs.tables.entry.Tie as tie
 
 row-of-requires : tie.Need-row-of-requires
 row-of-requires c κs = search needs
@@ -17,12 +18,12 @@ in-row-requires c κs = search needs
 
 returns : tie.Need-returns
 returns c =
-    let xs = c .before .before .args .table .now in
+    let table = c .before .before .args .table in
     let place = c .before .before .args .place in
     c .in-row .ensures ∙
     ap (λ (ns : List ℕ). getD ns (place % 8) 0) (c .before .row-of .ensures .entries) ∙
-    in-row xs (8 * (place / 8)) (place % 8) (omega arith) ∙
-    ap (λ (k : ℕ). getD xs k 0) (omega arith)
+    in-row (entriesIn table) (8 * (place / 8)) (place % 8) (omega arith) ∙
+    ap (λ (k : ℕ). getD (entriesIn table) k 0) (omega arith)
 
 pub entry-spec : {M : Type 1} → statement M
 entry-spec = tie.close (tie.spec row-of-requires in-row-requires returns)

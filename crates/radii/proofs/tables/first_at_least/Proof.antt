@@ -1,9 +1,10 @@
--- `rows::first_at_least` meets its contract: four halvings leave one row, and the first place is after those of the row that are below x. Assumes nothing.
+-- `radii::tables::first_at_least` meets its contract: four halvings leave one row, and the first place is after those of the row that are below x. Assumes nothing.
 use native.Mathlib.Omega.{arith}
 use Rattle.rows.proofs.RowLaws.{first-in-row}
+use Rattle.radii.proofs.TableLaws.{rises}
 use borrow.Author.Needs.{needs}
-use Rattle.rows.proofs.first_at_least.Statement.{statement}
-use Rattle.rows.proofs.first_at_least.Tie as tie
+use Rattle.radii.proofs.tables.first_at_least.Statement.{statement}
+use Rattle.radii.proofs.tables.first_at_least.Tie as tie
 
 halved-requires : tie.Need-halved-requires
 halved-requires c κs = search needs
@@ -27,10 +28,10 @@ below-in-requires : tie.Need-below-in-requires
 below-in-requires c κs = search needs
 
 add-result : tie.Need-add-result
-add-result c = let first = first-in-row (c .before .before .before .before .before .before .pre .0) (c .before .before .halved4 .ensures) (c .before .row-of .ensures) (c .below-in .ensures) in omega (arith, first .place)
+add-result c = let first = first-in-row (rises (c .before .before .before .before .before .before .args .table)) (c .before .before .halved4 .ensures) (c .before .row-of .ensures) (c .below-in .ensures) in omega (arith, first .place)
 
 returns : tie.Need-returns
-returns c = first-in-row (c .before .before .before .before .before .before .pre .0) (c .before .before .halved4 .ensures) (c .before .row-of .ensures) (c .below-in .ensures)
+returns c = first-in-row (rises (c .before .before .before .before .before .before .args .table)) (c .before .before .halved4 .ensures) (c .before .row-of .ensures) (c .below-in .ensures)
 
 pub first-at-least-spec : {M : Type 1} → statement M
 first-at-least-spec =
