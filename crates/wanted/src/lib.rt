@@ -5,6 +5,7 @@ use coordinates::LatitudeCoded;
 use coordinates::LongitudeCoded;
 use ground::AltitudeCode;
 use ground::AltitudeUncertaintyCode;
+use ground::Millimetres;
 use ground::OrientationCode;
 use ground::Refusal;
 use ground::UncertaintyCode;
@@ -18,7 +19,7 @@ use requests::AreaWanted;
 use requests::Horizontal;
 use requests::Request;
 use requests::Wanted;
-ghost use Rattle.requests.specs.declared.Horizontal.the-variants.{NotAsked};
+ghost use Rattle.requests.specs.declared.Horizontal.the-variants.{Circle};
 ghost use Rattle.requests.specs.Codes.{AltitudeCodes};
 ghost use Rattle.wanted.specs.Coding.{CodesRequest, CodesOrientation, CodesArea, CodesHeight, OrientationOf};
 
@@ -101,17 +102,7 @@ fn area_codes(horizontal: Horizontal, orientation: OrientationCode) -> AreaCoded
     ensures { λ r. ⌜ CodesArea horizontal r ⌝ }
 {
     match horizontal {
-        Horizontal::Circle(radius) => {
-            let UncertaintyCoded::Code(code) = radii::uncertainty_code(radius) else {
-                return AreaCoded::TooLarge;
-            };
-            AreaCoded::Codes(AreaWanted {
-                asked: true,
-                semi_major: code,
-                semi_minor: code,
-                orientation,
-            })
-        }
+        Horizontal::Circle(radius) => circle_codes(radius, orientation),
         Horizontal::Ellipse {
             semi_major,
             semi_minor,
@@ -130,19 +121,27 @@ fn area_codes(horizontal: Horizontal, orientation: OrientationCode) -> AreaCoded
                 orientation,
             })
         }
-        Horizontal::NotAsked => no_area(orientation),
+        Horizontal::NotAsked => AreaCoded::Codes(AreaWanted {
+            asked: false,
+            semi_major: UncertaintyCode(0),
+            semi_minor: UncertaintyCode(0),
+            orientation,
+        }),
     }
 }
 
-// No area is asked.
-fn no_area(orientation: OrientationCode) -> AreaCoded
-    requires { ⌜ OrientationOf NotAsked orientation ⌝ }
-    ensures { λ r. ⌜ CodesArea NotAsked r ⌝ }
+// A circle's one code is that of both axes.
+fn circle_codes(radius: Millimetres, orientation: OrientationCode) -> AreaCoded
+    requires { ⌜ OrientationOf (Circle radius) orientation ⌝ }
+    ensures { λ r. ⌜ CodesArea (Circle radius) r ⌝ }
 {
+    let UncertaintyCoded::Code(code) = radii::uncertainty_code(radius) else {
+        return AreaCoded::TooLarge;
+    };
     AreaCoded::Codes(AreaWanted {
-        asked: false,
-        semi_major: UncertaintyCode(0),
-        semi_minor: UncertaintyCode(0),
+        asked: true,
+        semi_major: code,
+        semi_minor: code,
         orientation,
     })
 }
