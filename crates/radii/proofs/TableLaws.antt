@@ -1,7 +1,6 @@
 -- One rule for a table of whole parts, over all its places: each is the greatest length that its code covers. antt computes the list, and a
 -- table in `src/` is that list, entry by entry. Assumes nothing.
 use mathlib.Core.Path.{_≡_, sym, ap, _∙_, subst⁻¹}
-use mathlib.Core.List.{List, [], _∷_}
 use Prim.Native.Nat.{ℕ, zero, suc, _+_, _*_, _-_, _/_, _^_, _≤_, _<_}
 use native.Mathlib.Nat.{le-of-suc-le-suc, not-suc-le-zero, add-zero, zero-add, add-suc, suc-add, one-le-pow, div-mul-le-self, le-div-iff-mul-le}
 use native.Mathlib.Omega.{arith}

@@ -3,7 +3,7 @@ use mathlib.Core.Path.{_≡_, refl, sym, ap, subst, subst⁻¹, _∙_}
 use mathlib.Core.Bool.{Bool, true, false}
 use mathlib.Core.List.{List, [], _∷_}
 use Prim.Native.Nat.{ℕ, zero, suc, _+_, _*_, _-_, _/_, _%_, _≤_, _<_}
-use native.Mathlib.Nat.{add-sub-of-le, add-zero, le-trans, not-suc-le-zero, le-of-suc-le-suc, lt-of-lt-of-le}
+use native.Mathlib.Nat.{add-sub-of-le, add-zero, le-trans}
 use native.Mathlib.Omega.{arith}
 use borrow.Author.Tests.{ltb-true, ltb-false, lt-ltb, le-ltb}
 use lib.Dec.{ltb}
@@ -113,10 +113,3 @@ module _ {xs : List ℕ} {x k : ℕ} (up : Rising xs) (among : Among xs x k 7) w
 
   pub first-in-row : {r : Row} {n : ℕ} → IsRow xs k r → n ≡ below x (entriesOf r) → FirstAt xs x (k + n)
   first-in-row {r} is e = found _ (subst⁻¹ (Parted x (rowFrom xs k)) (e ∙ ap (below x) (is .entries)) (parted x _ row-ordered))
-
--- there is one first place
-pub first-one : {xs : List ℕ} {x j k : ℕ} → FirstAt xs x j → FirstAt xs x k → j ≡ k
-first-one {xs} {x} {j} {k} p q =
-    let not-before : j < k → ⊥ = λ l. omega (arith, rw (add-zero j) at (p .here), q .none j l) in
-    let not-after : k < j → ⊥ = λ l. omega (arith, rw (add-zero k) at (q .here), p .none k l) in
-    omega arith

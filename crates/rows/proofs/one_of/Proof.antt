@@ -1,6 +1,5 @@
 -- `rows::one_of` meets its contract: a place below 2 that is not 0 is 1. Assumes nothing.
 use mathlib.Core.Path.{_≡_}
-use Prim.Native.Nat.{ℕ}
 use native.Mathlib.Omega.{arith}
 use borrow.Author.Needs.{needs}
 use Rattle.rows.proofs.one_of.Statement.{statement}
