@@ -7,7 +7,8 @@ use native.Mathlib.Nat.{add-sub-of-le, add-zero, le-trans}
 use native.Mathlib.Omega.{arith}
 use borrow.Author.Tests.{ltb-true, ltb-false, lt-ltb, le-ltb}
 use lib.Dec.{ltb}
-use lib.ListN.{getD, length}
+use lib.ListN.{getD, length, take}
+use lib.Seq.{getD-take}
 use Rattle.ground.proofs.MatchLaws.{Passed, passed}
 use Rattle.rows.specs.Tables.{Rising, Among, FirstAt}
 use Rattle.rows.specs.Rows.{IsRow, entriesOf, rowFrom, one, below}
@@ -45,8 +46,9 @@ by-halves a b c d e f g h (suc (suc (suc (suc (suc (suc zero)))))) l = refl
 by-halves a b c d e f g h (suc (suc (suc (suc (suc (suc (suc zero))))))) l = refl
 by-halves a b c d e f g h (suc (suc (suc (suc (suc (suc (suc (suc k)))))))) l = absurd (omega arith)
 
-pub last-row : (k : ℕ) → k < 16 → Passed 15 k → 120 ≡ 8 * k
-last-row k h p = let l : 15 ≤ k = passed 15 k p in omega (arith, l)
+-- a remainder by 16 is one of sixteen
+pub no-other : (k : ℕ) → Passed 16 (k % 16) → ⊥
+no-other k p = let l : 16 ≤ k % 16 = passed 16 (k % 16) p in omega (arith, l)
 
 -- numbers that do not fall
 pub record Ordered (ns : List ℕ) : Type 0 where
@@ -67,18 +69,19 @@ none-below x (n ∷ ns) h = not-counted ns (h 0 (omega arith)) ∙ none-below x 
 
 -- so many are below x, and those come first
 pub record Parted (x : ℕ) (ns : List ℕ) (many : ℕ) : Type 0 where
+  pub most : many ≤ length ns
   pub before : (i : ℕ) → i < many → getD ns i 0 < x
   pub after : many < length ns → x ≤ getD ns many 0
 
 parted-one : {n x many : ℕ} {ns : List ℕ} → n < x → Parted x ns many → Parted x (n ∷ ns) (suc many)
-parted-one {n} {x} {many} {ns} h p = record { before = first; after = λ l. p .after (omega arith) }
+parted-one {n} {x} {many} {ns} h p = record { most = omega (arith, p .most); before = first; after = λ l. p .after (omega arith) }
   where
     first : (i : ℕ) → i < suc many → getD (n ∷ ns) i 0 < x
     first zero l = h
     first (suc i) l = p .before i (omega arith)
 
 pub parted : (x : ℕ) (ns : List ℕ) → Ordered ns → Parted x ns (below x ns)
-parted x [] o = record { before = λ i l. absurd (omega arith); after = λ l. absurd (omega arith) }
+parted x [] o = record { most = omega arith; before = λ i l. absurd (omega arith); after = λ l. absurd (omega arith) }
 parted x (n ∷ ns) o = by (ltb n x) refl (parted x ns (rest o))
   where
     by : (t : Bool) → ltb n x ≡ t → Parted x ns (below x ns) → Parted x (n ∷ ns) (below x (n ∷ ns))
@@ -86,21 +89,25 @@ parted x (n ∷ ns) o = by (ltb n x) refl (parted x ns (rest o))
     by false e p =
         let h = ltb-false n x e in
         subst⁻¹ (Parted x (n ∷ ns)) (none-below x (n ∷ ns) (λ i l. le-trans h (o .ordered 0 i (omega arith) l)))
-        (record { before = λ i l. absurd (omega arith); after = λ l. h })
+        (record { most = omega arith; before = λ i l. absurd (omega arith); after = λ l. h })
 
--- the first place, where it is one of a row's: it is after those of the row that are below x
+-- the first place, where it is one of a row's: it is after those of the row's first seven that are below x
 module _ {xs : List ℕ} {x k : ℕ} (up : Rising xs) (among : Among xs x k 7) where
-  row-ordered : Ordered (rowFrom xs k)
-  row-ordered = record { ordered = λ i j h l. rw (in-row xs k i (omega arith), in-row xs k j l) (up (k + i) (k + j) (omega arith) (omega (arith, among .place))) }
+  in-seven : (i : ℕ) → i < 7 → getD (take 7 (rowFrom xs k)) i 0 ≡ getD xs (k + i) 0
+  in-seven i h = getD-take 7 (rowFrom xs k) i 0 h ∙ in-row xs k i (omega arith)
 
-  found : (many : ℕ) → Parted x (rowFrom xs k) many → FirstAt xs x (k + many)
-  found many p = record { place = omega (arith, among .place, few); here = rw (add-zero (k + many), ← in-row xs k many few) (p .after few); none = none }
+  seven-ordered : Ordered (take 7 (rowFrom xs k))
+  seven-ordered = record { ordered = λ i j h l. rw (in-seven i (omega arith), in-seven j l) (up (k + i) (k + j) (omega arith) (omega (arith, among .place))) }
+
+  found : (many : ℕ) → Parted x (take 7 (rowFrom xs k)) many → FirstAt xs x (k + many)
+  found many p = record { place = omega (arith, among .place, few); here = rw (add-zero (k + many)) (here (ltb many 7) refl); none = none }
     where
-      some-left : 7 < many → ⊥
-      some-left h = omega (arith, rw (in-row xs k 7 (omega arith)) at (p .before 7 h), among .here)
+      few : many ≤ 7
+      few = p .most
 
-      few : many < 8
-      few = omega (arith, some-left)
+      here : (t : Bool) → ltb many 7 ≡ t → x ≤ getD xs (k + many) 0
+      here true e = let l = ltb-true many 7 e in rw (← in-seven many l) (p .after l)
+      here false e = let q : 7 ≡ many = omega (arith, ltb-false many 7 e, few) in subst (λ (n : ℕ). x ≤ getD xs (k + n) 0) q (among .here)
 
       none : (j : ℕ) → j < k + many → getD xs j 0 < x
       none j l = by (ltb j k) refl
@@ -109,7 +116,7 @@ module _ {xs : List ℕ} {x k : ℕ} (up : Rising xs) (among : Among xs x k 7) w
           by true e = among .none j (ltb-true j k e)
           by false e =
               let q : k + (j - k) ≡ j = add-sub-of-le (ltb-false j k e) in
-              rw q at (rw (in-row xs k (j - k) (omega (arith, few))) at (p .before (j - k) (omega arith)))
+              rw q at (rw (in-seven (j - k) (omega (arith, few))) at (p .before (j - k) (omega arith)))
 
-  pub first-in-row : {r : Row} {n : ℕ} → IsRow xs k r → n ≡ below x (entriesOf r) → FirstAt xs x (k + n)
-  first-in-row {r} is e = found _ (subst⁻¹ (Parted x (rowFrom xs k)) (e ∙ ap (below x) (is .entries)) (parted x _ row-ordered))
+  pub first-in-row : {r : Row} {n : ℕ} → IsRow xs k r → n ≡ below x (take 7 (entriesOf r)) → FirstAt xs x (k + n)
+  first-in-row {r} is e = found _ (subst⁻¹ (Parted x (take 7 (rowFrom xs k))) (e ∙ ap (λ (ns : List ℕ). below x (take 7 ns)) (is .entries)) (parted x _ seven-ordered))

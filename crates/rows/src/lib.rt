@@ -2,7 +2,7 @@
 ghost use mathlib.Core.Path.{_≡_};
 ghost use mathlib.Core.List.{[], _∷_};
 ghost use Prim.Native.Nat.{_+_, _*_, _≤_, _<_};
-ghost use lib.ListN.{getD};
+ghost use lib.ListN.{getD, take};
 ghost use Rattle.rows.specs.Rows.{IsRow, entriesOf, below, TellsBelow};
 
 // Eight entries of a table, one after the other.
@@ -18,12 +18,12 @@ pub struct Row(
 );
 
 // The row of that number. Each of its places is a constant here, so the compiler keeps the table beside the code; one that is read at
-// a place known only at run time would be laid on the stack at each call.
+// a place known only at run time would be laid on the stack at each call. The remainder shows it that there is no other row.
 pub fn row_of(table: &[u32; 128], row: usize) -> Row
     requires { ⌜ row < 16 ⌝ }
     ensures { λ r. ⌜ IsRow (now (table .entry)) (8 * row) r ⌝ }
 {
-    match row {
+    match row % 16 {
         0 => row_at(table, 0),
         1 => row_at(table, 8),
         2 => row_at(table, 16),
@@ -39,7 +39,8 @@ pub fn row_of(table: &[u32; 128], row: usize) -> Row
         12 => row_at(table, 96),
         13 => row_at(table, 104),
         14 => row_at(table, 112),
-        _ => row_at(table, 120),
+        15 => row_at(table, 120),
+        _ => row_at(table, 0),
     }
 }
 
@@ -88,9 +89,9 @@ fn one_of(first: u32, second: u32, place: usize) -> u32
     second
 }
 
-// How many of a row's entries are below x.
+// How many of a row's first seven entries are below x.
 pub fn below_in(row: Row, x: u32) -> usize
-    ensures { λ r. ⌜ r ≡ below x (entriesOf row) ⌝ }
+    ensures { λ r. ⌜ r ≡ below x (take 7 (entriesOf row)) ⌝ }
 {
     below_one(row.0, x)
         + below_one(row.1, x)
@@ -99,7 +100,6 @@ pub fn below_in(row: Row, x: u32) -> usize
         + below_one(row.4, x)
         + below_one(row.5, x)
         + below_one(row.6, x)
-        + below_one(row.7, x)
 }
 
 fn below_one(entry: u32, x: u32) -> usize

@@ -53,8 +53,8 @@ fn put_medium(out: &mut [u8], at: usize, n: u64) -> usize
     put_four(out, next, n % 10000)
 }
 
-// Puts a number of at most four digits.
-fn put_short(out: &mut [u8], at: usize, n: u64) -> usize
+// Puts a number of at most four digits: for one that is known to be short, the quicker way.
+pub fn put_short(out: &mut [u8], at: usize, n: u64) -> usize
     requires { ⌜ n < 10000 ⌝ }
     requires { ⌜ at + length (decimal n) ≤ length (now out) ⌝ }
     ensures { λ r. ⌜ Puts (now (out .entry)) at (decimal n) (now (out .exit)) r ⌝ }

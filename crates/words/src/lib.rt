@@ -28,5 +28,5 @@ pub fn put_head(out: &mut [u8], at: usize, type_number: u8) -> usize
     ensures { λ r. ⌜ PutsWithin 22 (now (out .entry)) at (headText «type_number») (now (out .exit)) r ⌝ }
 {
     let next = text::put_bytes(out, at, b"0 ");
-    text::put_decimal(out, next, type_number as u64)
+    text::put_short(out, next, type_number as u64)
 }

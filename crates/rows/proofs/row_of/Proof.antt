@@ -1,7 +1,7 @@
 -- `rows::row_of` meets its contract: each arm's place is eight times its row. Assumes nothing.
 use native.Mathlib.Omega.{arith}
 use borrow.Author.Needs.{needs}
-use Rattle.rows.proofs.RowLaws.{moved, last-row}
+use Rattle.rows.proofs.RowLaws.{moved, no-other}
 use Rattle.rows.proofs.row_of.Statement.{statement}
 use Rattle.rows.proofs.row_of.Tie as tie
 
@@ -99,7 +99,13 @@ row-at-requires-16 : tie.Need-row-at-requires-16
 row-at-requires-16 c κs = search needs
 
 returns-16 : tie.Need-returns-16
-returns-16 c = moved (c .row-at16 .ensures) (last-row _ (c .before .before .pre) (c .before .match .rest))
+returns-16 c = moved (c .row-at16 .ensures) (omega arith)
+
+row-at-requires-17 : tie.Need-row-at-requires-17
+row-at-requires-17 c κs = search needs
+
+returns-17 : tie.Need-returns-17
+returns-17 c = absurd (no-other _ (c .before .match .rest))
 
 pub row-of-spec : {M : Type 1} → statement M
 row-of-spec =
@@ -121,6 +127,7 @@ row-of-spec =
     row-at-requires-14
     row-at-requires-15
     row-at-requires-16
+    row-at-requires-17
     returns
     returns-2
     returns-3
@@ -136,4 +143,5 @@ row-of-spec =
     returns-13
     returns-14
     returns-15
-    returns-16)
+    returns-16
+    returns-17)

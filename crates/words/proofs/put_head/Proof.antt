@@ -13,15 +13,15 @@ slice-aggregate-put-bytes c = search needs
 put-bytes-requires : tie.Need-put-bytes-requires
 put-bytes-requires c κs = search needs
 
-put-decimal-requires : tie.Need-put-decimal-requires
-put-decimal-requires c κs = omega (arith, decimal-most {n = c .before .before .before .before .before .before .before .args .type-number} (omega arith), c .before .before .before .put-bytes .ensures .place)
+put-short-requires : tie.Need-put-short-requires
+put-short-requires c κs = omega (arith, decimal-most {n = c .before .before .before .before .before .before .before .args .type-number} (omega arith), c .before .before .before .put-bytes .ensures .place)
 
 same-length : tie.Need-same-length
 same-length c = search needs
 
 returns : tie.Need-returns
 unfolding headText
-returns c = after (within {most = 2} (omega arith) (c .before .before .before .before .before .before .put-bytes .ensures)) (decimal-within (omega arith) (c .before .before .put-decimal .ensures))
+returns c = after (within {most = 2} (omega arith) (c .before .before .before .before .before .before .put-bytes .ensures)) (decimal-within (omega arith) (c .before .before .put-short .ensures))
 
 pub put-head-spec : {M : Type 1} → statement M
 put-head-spec =
@@ -29,6 +29,6 @@ put-head-spec =
     (tie.spec
     slice-aggregate-put-bytes
     put-bytes-requires
-    put-decimal-requires
+    put-short-requires
     same-length
     returns)
