@@ -9,12 +9,13 @@ import subprocess
 import sys
 from pathlib import Path
 
-LISTER = Path(__file__).resolve().parent.parent / "target" / "bin" / "lister"
+ROOT = Path(__file__).resolve().parent.parent
+LISTER = [str(ROOT / "bindings" / "x86-64"), str(ROOT / "target" / "bin" / "lister")]
 
 
 def fed(log, size):
     """The text's digest and its last line."""
-    reader = subprocess.Popen([str(LISTER)], stdin=subprocess.PIPE, stdout=subprocess.PIPE)
+    reader = subprocess.Popen(LISTER, stdin=subprocess.PIPE, stdout=subprocess.PIPE)
     child = os.fork()
     if child == 0:
         out, view = reader.stdin.fileno(), memoryview(log)
