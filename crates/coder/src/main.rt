@@ -3,17 +3,77 @@
 use printing::Printed;
 use streaming::Input;
 use streaming::Output;
+use streaming::Run;
 ghost use mathlib.Core.Path.{_≡_};
+ghost use mathlib.Core.Bool.{false};
+ghost use mathlib.Core.List.{List, []};
+ghost use Prim.Native.Nat.{ℕ, _<_};
 ghost use lib.ListN.{length};
-ghost use Rattle.streaming.specs.Streaming.{SoundInput, SoundOutput};
+ghost use Rattle.streaming.specs.Inputs.{SoundInput, Line, mostOctets};
+ghost use Rattle.streaming.specs.Outputs.{SoundOutput};
+ghost use Rattle.streaming.specs.Answering.{AnswerPut, Stopped};
+ghost use Rattle.coder.specs.Coding.{Prints, Answer, Codes};
 
 // No answer takes more octets.
 const LONGEST_ANSWER: usize = 46;
+
+// No input has so many lines.
+const MOST_LINES: u64 = 4611686018427387904;
+
+fn main() {
+    let mut out = io::large_buffer();
+    let mut block = io::large_buffer();
+    run(&mut out, &mut block);
+}
+
+// Answers every line of the input, and says how many there were. Answers where it stands then.
+fn run(out: &mut [u8; 65536], block: &mut [u8; 65536]) -> Run
+    ensures { λ r. ⌜ Codes (now (block .entry)) (now (block .exit)) (now (out .exit)) r ⌝ }
+{
+    let answered = answer_lines(out, block);
+    let input = answered.input;
+    let output = streaming::write_end(out, answered.output);
+    Run { input, output }
+}
+
+// Answers every line of the input. The end of the input ends it, and a closed output.
+fn answer_lines(out: &mut [u8; 65536], block: &mut [u8; 65536]) -> Run
+    ensures { λ r. ⌜ Stopped Answer [] (now (block .entry)) (now (block .exit)) (now (out .exit)) r ⌝ }
+{
+    let mut input = streaming::no_input();
+    let mut output = streaming::no_output();
+    while output.answered < MOST_LINES {
+        input = streaming::next_line(block, input);
+        if !input.ready {
+            return Run { input, output };
+        }
+        output = answer_line(out, block, input, output);
+        if streaming::is_closed(output.sink) {
+            return Run { input, output };
+        }
+    }
+    Run { input, output }
+}
+
+// Answers the line that is held.
+fn answer_line(out: &mut [u8; 65536], block: &[u8; 65536], input: Input, before: Output) -> Output
+    requires { ⌜ SoundInput input ⌝ }
+    requires { ⌜ SoundOutput before ⌝ }
+    requires { ⌜ before .sink .closed ≡ false ⌝ }
+    requires { ⌜ before .answered < mostOctets ⌝ }
+    ensures { λ r. ⌜ AnswerPut Answer (now (block .entry)) (now (out .entry)) (now (out .exit)) input before r ⌝ }
+{
+    let mut output = streaming::make_room(out, before, LONGEST_ANSWER);
+    output.answered += 1;
+    output.put = printing::put_line(out, output.put, output.answered, printed(block, input));
+    output
+}
 
 // What is printed for the line that is held.
 fn printed(block: &[u8], input: Input) -> Printed
     requires { ⌜ length (now block) ≡ 65536 ⌝ }
     requires { ⌜ SoundInput input ⌝ }
+    ensures { λ r. ⌜ ((line : List ℕ) → Line (now (block .entry)) input line → Prints line r) ⌝ }
 {
     if input.long {
         return Printed::Unreadable;
@@ -21,44 +81,4 @@ fn printed(block: &[u8], input: Input) -> Printed
     let from = input.from;
     let end = input.end;
     lines::answer(&block[from..end])
-}
-
-// Answers the line that is held.
-fn answer_line(out: &mut [u8; 65536], block: &[u8; 65536], input: Input, before: Output) -> Output
-    requires { ⌜ SoundInput input ⌝ }
-    requires { ⌜ SoundOutput before ⌝ }
-    ensures { λ r. ⌜ SoundOutput r ⌝ }
-{
-    let mut output = streaming::make_room(out, before, LONGEST_ANSWER);
-    output.answered = streaming::counted(output.answered);
-    output.put = printing::put_line(out, output.put, output.answered, printed(block, input));
-    output
-}
-
-// Answers every line of the input.
-fn answer_lines(out: &mut [u8; 65536], block: &mut [u8; 65536]) -> Output
-    ensures { λ r. ⌜ SoundOutput r ⌝ }
-{
-    let mut input = streaming::no_input();
-    let mut output = streaming::no_output();
-    let mut turns = u64::MAX;
-    while turns > 0 {
-        input = streaming::next_line(block, input);
-        if !input.ready {
-            return output;
-        }
-        output = answer_line(out, block, input, output);
-        if output.closed {
-            return output;
-        }
-        turns -= 1;
-    }
-    output
-}
-
-fn main() {
-    let mut out = io::large_buffer();
-    let mut block = io::large_buffer();
-    let output = answer_lines(&mut out, &mut block);
-    streaming::write_end(&mut out, output);
 }

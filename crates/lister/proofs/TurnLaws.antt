@@ -1,20 +1,27 @@
--- What the steps of a turn make of what is held, and that each turn comes nearer to the end. Assumes nothing.
+-- What the steps of a turn make of what is held, and that each turn comes nearer to the end.
 use Prim.Native.Nat.{ℕ, zero, suc, _+_, _-_, _*_, _≤_, _<_}
-use mathlib.Core.Path.{_≡_, refl, sym, ap, _∙_}
-use mathlib.Core.Bool.{Bool, true, false, not, _||_}
+use mathlib.Core.Path.{_≡_, refl, sym, ap, _∙_, subst}
+use mathlib.Core.Bool.{Bool, true, false, _||_}
 use mathlib.Core.List.{List, [], _∷_, _++_}
 use native.Mathlib.Omega.{arith}
-use lib.ListN.{length, take, drop, length-drop, length-append}
-use lib.Seq.{drop-drop, length-take-le, take-take, take-nil}
-use lib.Dec.{eqb}
-use borrow.Author.Tests.{eqb-true, eqb-false}
-use borrow.Rule.Slice.PartMut.{putMid, postOf, take-put}
+use lib.ListN.{length, take, drop, length-drop}
+use lib.Seq.{drop-drop, length-take-le, take-nil}
+use lib.Dec.{T}
 use Rattle.steps.specs.Steps.{longestStep}
 use Rattle.listing.specs.Streaming.{Lists}
 use Rattle.listing.specs.declared.Listed.{Listed}
-use Rattle.listing.proofs.StreamLaws.{stuck, counted}
+use Rattle.listing.proofs.StreamLaws.{stuck, counted, written-text}
 use Rattle.lister.specs.declared.Held.{Held}
-use Rattle.lister.specs.Holding.{octetsHeld, foundIn, Sound, Turned, Refilled, mostFrames, mayRead, turnsLeft}
+use Rattle.streaming.specs.declared.source.Source.{Source}
+use Rattle.streaming.specs.declared.sink.Sink.{Sink}
+use Rattle.streaming.specs.Sinks.{Wrote}
+use Rattle.lister.specs.Holding.{octetsHeld, foundIn, Sound, Turned, Refilled, Stepped, lists, reads, mostFrames, mayRead, turnsLeft}
+
+abbrev over-of : Source → Bool
+over-of s = s .over
+
+abbrev fill-of : Source → ℕ
+fill-of s = s .fill
 
 drop-take : (n m : ℕ) (l : List ℕ) → drop n (take m l) ≡ take (m - n) (drop n l)
 drop-take zero m l = let e : m - 0 ≡ m = omega arith in rw e
@@ -24,59 +31,53 @@ drop-take (suc n) (suc m) (x ∷ l) = let e : suc m - suc n ≡ m - n = omega ar
 
 -- ---- the steps
 
--- a run that goes on has not ended
-go-on : (ended written over : Bool) → over ≡ (ended || not written) → over ≡ false → ended ≡ false
-go-on true written over o f = sym o ∙ f
-go-on false written over o f = refl
+-- a run that goes on has not ended, and its output is open
+go-on : (ended closed over : Bool) → over ≡ (ended || closed) → over ≡ false → (ended ≡ false) × (closed ≡ false)
+go-on true closed over o f = absurd (subst T (sym o ∙ f) tt)
+go-on false closed over o f = (refl, sym o ∙ f)
 
 pub not-ended : {buf x y : List ℕ} {h r : Held} → Turned buf x y h r → r .ended ≡ false → foundIn (length x) buf h .ended ≡ false
-not-ended {buf} {x} {y} {h} {r} t f = go-on (foundIn (length x) buf h .ended) (r .written) (r .ended) (t .ended) f
+not-ended {buf} {x} {y} {h} {r} t f = go-on (foundIn (length x) buf h .ended) (r .sink .closed) (r .ended) (t .ended) f .0
 
-pub turned : {x y : List ℕ} (buf : List ℕ) (h : Held) (r : Listed) (over written : Bool) → over ≡ (r .ended || not written) → Sound buf h
-    → Lists (h .last) (h .unbroken) (octetsHeld buf h) x y r
-    → Turned buf x y h (record { at = h .at + r .taken; fill = h .fill; unbroken = r .unbroken; last = h .last; written = written; ended = over })
-turned buf h r over written either o l =
+pub still-open : {buf x y : List ℕ} {h r : Held} → Turned buf x y h r → r .ended ≡ false → r .sink .closed ≡ false
+still-open {buf} {x} {y} {h} {r} t f = go-on (foundIn (length x) buf h .ended) (r .sink .closed) (r .ended) (t .ended) f .1
+
+pub stays-open : {buf x y after : List ℕ} {h r : Held} → Stepped buf x y after h r → r .ended ≡ false → r .sink .closed ≡ false
+stays-open (lists t e) on = still-open t on
+stays-open (reads m t go may f) on = rw (f .same-sink) (still-open t go)
+
+pub turned : {x y text : List ℕ} (buf : List ℕ) (h : Held) (fill : ℕ) (last : Bool) (r : Listed) (over : Bool) (sink : Sink) (shut : Bool) → fill ≡ h .source .fill → last ≡ h .source .over
+    → over ≡ (r .ended || shut) → shut ≡ sink .closed → Sound buf h → Lists last (h .unbroken) (take (fill - h .at) (drop (h .at) buf)) x y r
+    → text ≡ foundIn (length x) buf h .text → Wrote text (h .sink) sink
+    → Turned buf x y h (record { at = h .at + r .taken; source = h .source; unbroken = r .unbroken; sink = sink; ended = over })
+turned {x} {y} {text} buf h fill last r over sink shut f v either same o all put wrote =
+    let l : Lists (h .source .over) (h .unbroken) (octetsHeld buf h) x y r = rw (f, v) at all in
     let d = length-drop (h .at) buf in
-    let n = length-take-le (h .fill - h .at) (drop (h .at) buf) (omega (arith, o .order, o .inside)) in
-    let e : h .fill - h .at - r .taken ≡ h .fill - (h .at + r .taken) = omega arith in
+    let n = length-take-le (h .source .fill - h .at) (drop (h .at) buf) (omega (arith, o .order, o .inside)) in
+    let e : h .source .fill - h .at - r .taken ≡ h .source .fill - (h .at + r .taken) = omega arith in
     record {
       sound = record { order = omega (arith, l .inside, o .order); inside = o .inside };
       place = ap (λ (t : ℕ). h .at + t) (l .taken);
-      held = rw (← l .taken, drop-take (r .taken) (h .fill - h .at) (drop (h .at) buf), drop-drop (r .taken) (h .at) buf, e);
+      held = rw (← l .taken, drop-take (r .taken) (h .source .fill - h .at) (drop (h .at) buf), drop-drop (r .taken) (h .at) buf, e);
       unbroken = l .unbroken;
-      same-fill = refl;
-      same-last = refl;
-      ended = either ∙ ap (λ (e : Bool). e || not written) (l .ended);
+      same-source = refl;
+      wrote = rw put at wrote;
+      ended = either ∙ ap (λ (e : Bool). r .ended || e) same ∙ ap (λ (e : Bool). e || sink .closed) (l .ended);
+      few = rw (← l .taken) (l .count);
       content = l .content;
     }
 
-some-more : (m n : ℕ) → eqb n 0 ≡ false → m < m + n - 0
-some-more m zero e = absurd (eqb-false 0 0 e refl)
-some-more m (suc n) e = omega arith
+-- the text that was found is what stands at the buffer's start
+pub text-found : {x y : List ℕ} (buf : List ℕ) (h : Held) (fill : ℕ) (last : Bool) (r : Listed) → fill ≡ h .source .fill → last ≡ h .source .over
+    → Lists last (h .unbroken) (take (fill - h .at) (drop (h .at) buf)) x y r → take (r .written) y ≡ foundIn (length x) buf h .text
+text-found {x} {y} buf h fill last r f v all =
+    let l : Lists (h .source .over) (h .unbroken) (octetsHeld buf h) x y r = rw (f, v) at all in
+    written-text l .0
 
--- b is the buffer with what is held moved to its start, v what was read behind that
-pub refilled : (buf b v : List ℕ) (h : Held) (n : ℕ) → Sound buf h → length b ≡ length buf → take (h .fill - h .at) b ≡ octetsHeld buf h
-    → (let B : List ℕ = putMid (h .fill - h .at) (length b - (h .fill - h .at)) b v in n ≤ length (take (length B - (h .fill - h .at)) (drop (h .fill - h .at) B)))
-    → Refilled buf (putMid (h .fill - h .at) (length b - (h .fill - h .at)) b v) h
-    (record { at = 0; fill = h .fill - h .at + n; unbroken = h .unbroken; last = eqb n 0; written = h .written; ended = false })
-refilled buf b v h n o l moved read =
-    let m : ℕ = h .fill - h .at in
-    let B : List ℕ = putMid m (length b - m) b v in
-    let i : m ≤ length b = omega (arith, o .order, o .inside) in
-    let a = length-append (take m b) (v ++ postOf m (length b - m) b) in
-    let k = length-take-le m b i in
-    let d = length-drop m B in
-    let t = length-take-le (length B - m) (drop m B) (omega arith) in
-    let f : m + n - 0 ≡ m + n = omega arith in
-    record {
-      sound = record { order = omega arith; inside = omega arith };
-      kept = rw (f, take-take m (m + n) B (omega arith)) (take-put m (length b - m) b v i ∙ moved);
-      unbroken = refl;
-      grown = some-more m n;
-      last = λ e.
-          let z : m + n - 0 ≡ m = omega (arith, eqb-true n 0 e) in
-          ap (λ (k : ℕ). take k B) z ∙ take-put m (length b - m) b v i ∙ moved;
-    }
+-- for a buffer that is as long
+pub text-put : {x y : List ℕ} (buf : List ℕ) (h : Held) (fill : ℕ) (last : Bool) (r : Listed) → fill ≡ h .source .fill → last ≡ h .source .over
+    → Lists last (h .unbroken) (take (fill - h .at) (drop (h .at) buf)) x y r → length y ≡ length x → take (r .written) y ≡ foundIn (length y) buf h .text
+text-put buf h fill last r f v all e = rw e (text-found buf h fill last r f v all)
 
 -- ---- nearer to the end
 
@@ -94,26 +95,30 @@ module _ {buf x y : List ℕ} {h m : Held} (t : Turned buf x y h m) where
   -- a turn that takes octets lists a frame
   pub listed-nearer : h .unbroken < mostFrames → (m .at ≡ h .at → ⊥) → turnsLeft m < turnsLeft h
   listed-nearer few moved =
-      let c = counted (length x) (h .last) (octetsHeld buf h) (h .unbroken) .1 (by (foundIn (length x) buf h .taken) refl) in
-      fewer-frames mostFrames (h .unbroken) (m .unbroken) (m .fill - m .at) (h .fill - h .at) (mayRead (h .last)) (mayRead (m .last))
-      few (omega (arith, t .unbroken)) (ap mayRead (t .same-last))
+      let c = counted (length x) (h .source .over) (octetsHeld buf h) (h .unbroken) .1 (by (foundIn (length x) buf h .taken) refl) in
+      fewer-frames mostFrames (h .unbroken) (m .unbroken) (m .source .fill - m .at) (h .source .fill - h .at) (mayRead (h .source .over)) (mayRead (m .source .over))
+      few (omega (arith, t .unbroken)) (ap mayRead (ap over-of (t .same-source)))
     where
       by : (n : ℕ) → foundIn (length x) buf h .taken ≡ n → 0 < foundIn (length x) buf h .taken
       by zero e = absurd (moved (t .place ∙ omega arith))
       by (suc n) e = omega arith
 
+  -- one that takes none and does not end the run may read more
+  pub may-read : longestStep ≤ length x → m .ended ≡ false → m .at ≡ h .at → m .source .over ≡ false
+  may-read room on same = ap over-of (t .same-source) ∙ stuck (length x) (h .source .over) (octetsHeld buf h) (h .unbroken) room (omega (arith, t .place)) (not-ended t on) .0
+
   -- one that takes none holds fewer than 95 octets: it reads more, or finds that nothing is left to read
   pub read-nearer : {after : List ℕ} {r : Held} → longestStep ≤ length x → Sound buf h → m .ended ≡ false → m .at ≡ h .at → Refilled buf after m r → turnsLeft r < turnsLeft h
   read-nearer {after} {r} room o on same f =
-      let w = stuck (length x) (h .last) (octetsHeld buf h) (h .unbroken) room (omega (arith, t .place)) (not-ended t on) in
-      let c = counted (length x) (h .last) (octetsHeld buf h) (h .unbroken) .0 in
+      let w = stuck (length x) (h .source .over) (octetsHeld buf h) (h .unbroken) room (omega (arith, t .place)) (not-ended t on) in
+      let c = counted (length x) (h .source .over) (octetsHeld buf h) (h .unbroken) .0 in
       let d = length-drop (h .at) buf in
-      let n = length-take-le (h .fill - h .at) (drop (h .at) buf) (omega (arith, o .order, o .inside)) in
-      by (r .last) refl (omega (arith, w .1)) (ap mayRead (w .0)) (omega (arith, t .unbroken, f .unbroken))
+      let n = length-take-le (h .source .fill - h .at) (drop (h .at) buf) (omega (arith, o .order, o .inside)) in
+      by (r .source .over) refl (omega (arith, w .1)) (ap mayRead (w .0)) (omega (arith, t .unbroken, f .unbroken))
     where
-      by : (b : Bool) → r .last ≡ b → h .fill - h .at < 95 → mayRead (h .last) ≡ 100 → h .unbroken ≤ r .unbroken → turnsLeft r < turnsLeft h
+      by : (b : Bool) → r .source .over ≡ b → h .source .fill - h .at < 95 → mayRead (h .source .over) ≡ 100 → h .unbroken ≤ r .unbroken → turnsLeft r < turnsLeft h
       by true e few before count =
-          no-reads mostFrames (h .unbroken) (r .unbroken) (r .fill - r .at) (h .fill - h .at) (mayRead (h .last)) (mayRead (r .last)) count few before (ap mayRead e)
+          no-reads mostFrames (h .unbroken) (r .unbroken) (r .source .fill - r .at) (h .source .fill - h .at) (mayRead (h .source .over)) (mayRead (r .source .over)) count few before (ap mayRead e)
       by false e few before count =
-          fewer-reads mostFrames (h .unbroken) (r .unbroken) (r .fill - r .at) (h .fill - h .at) (mayRead (h .last)) (mayRead (r .last)) count few
-          (omega (arith, f .grown e, t .same-fill)) before (ap mayRead e)
+          fewer-reads mostFrames (h .unbroken) (r .unbroken) (r .source .fill - r .at) (h .source .fill - h .at) (mayRead (h .source .over)) (mayRead (r .source .over)) count few
+          (omega (arith, f .read .grown e, f .start, ap fill-of (t .same-source))) before (ap mayRead e)

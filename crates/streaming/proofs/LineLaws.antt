@@ -1,55 +1,66 @@
--- Laws of a line that is cut off what was read. Assumes nothing.
-use mathlib.Core.Path.{_≡_, sym, ap, _∙_, subst}
-use mathlib.Core.Bool.{true, false}
-use mathlib.Core.List.{List}
-use Prim.Native.Nat.{ℕ, _+_, _≤_, _<_}
+-- Laws of the lines of an input.
+use Prim.Native.Nat.{ℕ, zero, suc, _+_, _≤_, _<_}
+use mathlib.Core.Path.{_≡_, refl, sym, ap, _∙_}
+use mathlib.Core.Bool.{Bool, true, false}
+use mathlib.Core.List.{List, [], _∷_, _++_, append-nil, append-assoc}
 use native.Mathlib.Omega.{arith}
-use lib.Dec.{T}
-use lib.ListN.{length, getD, take}
-use lib.Seq.{getD-take, length-take-le}
-use Rattle.numerals.specs.Marks.{FirstMark, NoMark}
-use Rattle.streaming.specs.declared.input.Input.{Input}
-use Rattle.streaming.specs.Streaming.{SoundInput, Cut, LastLine, line, none, newline, over, Line, NextLine}
+use lib.Dec.{eqb}
+use lib.ListN.{length, getD, length-append}
+use borrow.Author.Tests.{ne-eqb}
+use Rattle.streaming.specs.Lines.{lastOf, linesFrom, linesOf, NoNewline}
 
-last-sound : {i r : Input} → SoundInput i → LastLine i r → SoundInput r
-last-sound s (line c) = c .sound
-last-sound s (none t l e) = rw e s
+from-line : (f l s : List ℕ) → ((k : ℕ) → k < length l → getD l k 0 ≡ 10 → ⊥) → linesFrom f (l ++ 10 ∷ s) ≡ (f ++ l) ∷ linesOf s
+unfolding linesFrom
+from-line f [] s n = rw append-nil
+from-line f (b ∷ l) s n = rw (ne-eqb b 10 (n 0 (omega arith)), from-line (f ++ b ∷ []) l s (λ k h. n (suc k) (omega arith)), append-assoc)
 
-module _ (block : List ℕ) (i : Input) {end : ℕ} (inside : i .read ≤ length block) (f : FirstMark 10 (take (i .read) block) (i .taken) end) where
-  -- the search ends within what was read
-  pub within : end ≤ i .read
-  within = omega (arith, f .inside, length-take-le (i .read) block inside)
+from-last : (f l : List ℕ) → ((k : ℕ) → k < length l → getD l k 0 ≡ 10 → ⊥) → linesFrom f l ≡ lastOf (f ++ l)
+unfolding linesFrom
+from-last f [] n = rw append-nil
+from-last f (b ∷ l) n = rw (ne-eqb b 10 (n 0 (omega arith)), from-last (f ++ b ∷ []) l (λ k h. n (suc k) (omega arith)), append-assoc)
 
-  no-newline : NoMark 10 block (i .taken) end
-  no-newline = record { none = λ k l m e. f .first k l m (getD-take (i .read) block k 0 (omega (arith, within)) ∙ e) }
+-- a line, its newline, and the lines behind it
+pub line-first : (l s : List ℕ) → NoNewline l → linesOf (l ++ 10 ∷ s) ≡ l ∷ linesOf s
+line-first l s n = from-line [] l s (n .none)
 
-  -- a newline was found
-  pub line-found : {r : Input} → end < i .read → Cut i end (end + 1) r → NextLine block r
-  line-found h c =
-      let e : getD block end 0 ≡ 10 = sym (getD-take (i .read) block end 0 h) ∙ f .found (omega (arith, length-take-le (i .read) block inside)) in
-      record {
-        sound = c .sound;
-        line = λ _. record {
-          whole = rw (c .line-from, c .line-end) no-newline;
-          ended = newline (rw (c .line-end) e) (rw (c .taken-to, c .line-end));
-          short = c .short;
-        };
-      }
+-- a last line
+some-last : (l : List ℕ) → 0 < length l → lastOf l ≡ l ∷ []
+some-last [] h = absurd (omega arith)
+some-last (b ∷ l) h = refl
 
-  -- there is none, and no more to read
-  last-is : {r : Input} → i .read ≤ end → i .over ≡ true → i .ready ≡ false → LastLine i r → r .ready ≡ true → Line block r
-  last-is h o n (none t l e) y = absurd (subst T (sym y ∙ ap (λ (j : Input). j .ready) e ∙ n) tt)
-  last-is h o n (line c) y =
-      let e : end ≡ i .read = omega (arith, within) in
-      record {
-        whole = rw (c .line-from, c .line-end) (rw e at no-newline);
-        ended = over (c .same-over ∙ o) (rw (c .taken-to, c .line-end)) (rw (c .taken-to, c .same-read));
-        short = c .short;
-      }
+pub line-last : (l : List ℕ) → NoNewline l → 0 < length l → linesOf l ≡ l ∷ []
+line-last l n h = from-last [] l (n .none) ∙ some-last l h
 
-  pub last-found : {r : Input} → SoundInput i → i .read ≤ end → i .over ≡ true → i .ready ≡ false → LastLine i r → NextLine block r
-  last-found s h o n l = record { sound = last-sound s l; line = last-is h o n l }
+pub no-lines : linesOf [] ≡ []
+unfolding linesFrom
+no-lines = refl
 
--- none was found
-pub no-line : {block : List ℕ} {r : Input} → SoundInput r → r .ready ≡ false → NextLine block r
-no-line s n = record { sound = s; line = λ y. absurd (subst T (sym y ∙ n) tt) }
+-- no more lines than octets
+few-last : (l : List ℕ) → length (lastOf l) ≤ length l
+few-last [] = omega arith
+few-last (b ∷ l) = omega arith
+
+few-by : (f s : List ℕ) (b : ℕ) (t : Bool) → eqb b 10 ≡ t → ((g : List ℕ) → length (linesFrom g s) ≤ length g + length s) → length (linesFrom f (b ∷ s)) ≤ length f + length (b ∷ s)
+unfolding linesFrom
+few-by f s b true e few = rw e (omega (arith, few []))
+few-by f s b false e few = rw e (omega (arith, few (f ++ b ∷ []), length-append f (b ∷ [])))
+
+few-nil : (f : List ℕ) → length (linesFrom f []) ≤ length f + 0
+unfolding linesFrom
+few-nil f = omega (arith, few-last f)
+
+few-from : (f s : List ℕ) → length (linesFrom f s) ≤ length f + length s
+few-from f [] = few-nil f
+few-from f (b ∷ s) = few-by f s b (eqb b 10) refl (λ g. few-from g s)
+
+pub few-lines : (s : List ℕ) → length (linesOf s) ≤ length s
+few-lines s = omega (arith, few-from [] s)
+
+-- no newline in two parts
+pub no-newlines : {l m : List ℕ} → NoNewline l → NoNewline m → NoNewline (l ++ m)
+no-newlines {l} {m} a b = record { none = by l (a .none) }
+  where
+    by : (l : List ℕ) → ((k : ℕ) → k < length l → getD l k 0 ≡ 10 → ⊥) → (k : ℕ) → k < length (l ++ m) → getD (l ++ m) k 0 ≡ 10 → ⊥
+    by [] n k h e = b .none k h e
+    by (x ∷ l) n zero h e = n 0 (omega arith) e
+    by (x ∷ l) n (suc k) h e = by l (λ j i. n (suc j) (omega arith)) k (omega arith) e

@@ -7,7 +7,7 @@ use native.Mathlib.Nat.{add-comm}
 use native.Mathlib.Numerals.{add-one}
 use lib.ListN.{length, getD, take, drop, set, length-drop, take-append-drop}
 use lib.Seq.{take-suc, take-suc-set, getD-drop, drop-set-lt, drop-drop}
-use Rattle.streaming.specs.Streaming.{Shifted}
+use Rattle.streaming.specs.Blocks.{Shifted}
 
 -- b is b₀ with the first i octets from `at` on moved to its start
 module _ (b b₀ : List ℕ) (at i : ℕ) (h : at + i < length b) (l : length b ≡ length b₀) (p : take i b ≡ take i (drop at b₀)) (q : drop i b ≡ drop i b₀) where

@@ -1,7 +1,7 @@
 // Room for the next read.
 ghost use Prim.Native.Nat.{_≤_};
 ghost use lib.ListN.{length};
-ghost use Rattle.streaming.specs.Streaming.{Shifted};
+ghost use Rattle.streaming.specs.Blocks.{Shifted};
 
 // Moves the octets from at to fill to the buffer's start.
 pub fn shift(buf: &mut [u8], at: usize, fill: usize)

@@ -1,20 +1,22 @@
 // Lines of standard input, where the block that was read has them. A line of more than 4096 octets is not kept.
-use crate::block;
+use crate::source;
+use crate::source::Source;
 ghost use mathlib.Core.Path.{_≡_};
-ghost use mathlib.Core.Bool.{false};
+ghost use mathlib.Core.Bool.{true, false};
 ghost use Prim.Native.Nat.{_≤_};
 ghost use lib.ListN.{length, take};
 ghost use Rattle.numerals.specs.Marks.{FirstMark};
-ghost use Rattle.streaming.specs.Streaming.{SoundInput, Cuts, Cut, LastLine, Goes, NextLine};
+ghost use Rattle.streaming.specs.Inputs.{noInput, SoundInput, Cuts, Cut, LastLine, Started, Shortened, Refilled, NextLine, IsLong};
 
 const LONGEST_LINE: usize = 4096;
 
+// No line takes so many reads.
+const MOST_READS: u64 = 4611686018427387905;
+
 pub struct Input {
-    // the octets of the block from `taken` to `read` are read and not yet taken
+    // what was read; the octets of the block from `taken` on are not yet taken
+    pub source: Source,
     pub taken: usize,
-    pub read: usize,
-    // a read gave nothing: the input is over
-    pub over: bool,
     // the line's octets go from `from` to `end`; of a long one they are no more than a part
     pub from: usize,
     pub end: usize,
@@ -24,12 +26,12 @@ pub struct Input {
 }
 
 pub fn no_input() -> Input
-    ensures { λ r. ⌜ SoundInput r ⌝ }
+    ensures { λ r. ⌜ r ≡ noInput ⌝ }
 {
+    let source = source::unread();
     Input {
+        source,
         taken: 0,
-        read: 0,
-        over: false,
         from: 0,
         end: 0,
         long: false,
@@ -40,23 +42,33 @@ pub fn no_input() -> Input
 // Goes on to the next line. The end of the input ends a last line, too.
 pub fn next_line(block: &mut [u8; 65536], before: Input) -> Input
     requires { ⌜ SoundInput before ⌝ }
-    ensures { λ r. ⌜ NextLine (now (block .exit)) r ⌝ }
+    ensures { λ r. ⌜ NextLine (now (block .entry)) (now (block .exit)) before r ⌝ }
+{
+    let mut input = started(before);
+    let mut reads = MOST_READS;
+    while reads > 0 {
+        let end = newline(block, input);
+        let source = input.source;
+        if end < source::filled(source) {
+            return cut(input, end, end + 1);
+        }
+        if source::is_over(source) {
+            return last_line(input);
+        }
+        input = refilled(block, shortened(input));
+        reads -= 1;
+    }
+    input
+}
+
+// No line is ready, and nothing of the next is dropped.
+fn started(before: Input) -> Input
+    requires { ⌜ SoundInput before ⌝ }
+    ensures { λ r. ⌜ Started before r ⌝ }
 {
     let mut input = before;
     input.long = false;
     input.ready = false;
-    let mut turns = u64::MAX;
-    while turns > 0 {
-        let end = newline(block, input);
-        if end < input.read {
-            return cut(input, end, end + 1);
-        }
-        if input.over {
-            return last_line(input);
-        }
-        input = refilled(block, shortened(input));
-        turns -= 1;
-    }
     input
 }
 
@@ -64,10 +76,11 @@ pub fn next_line(block: &mut [u8; 65536], before: Input) -> Input
 fn newline(block: &[u8], input: Input) -> usize
     requires { ⌜ length (now block) ≡ 65536 ⌝ }
     requires { ⌜ SoundInput input ⌝ }
-    ensures { λ r. ⌜ FirstMark 10 (take (input .read) (now (block .entry))) (input .taken) r ⌝ }
+    ensures { λ r. ⌜ FirstMark 10 (take (input .source .fill) (now (block .entry))) (input .taken) r ⌝ }
 {
-    let read = input.read;
-    numerals::line_end(&block[0..read], input.taken)
+    let source = input.source;
+    let fill = source::filled(source);
+    numerals::line_end(&block[0..fill], input.taken)
 }
 
 // The line up to `end`; what is taken goes up to `taken`.
@@ -76,11 +89,11 @@ fn cut(input: Input, end: usize, taken: usize) -> Input
     requires { ⌜ Cuts input end taken ⌝ }
     ensures { λ r. ⌜ Cut input end taken r ⌝ }
 {
+    let source = input.source;
     let from = input.taken;
     Input {
+        source,
         taken,
-        read: input.read,
-        over: input.over,
         from,
         end,
         long: is_long(input.long, end - from),
@@ -90,7 +103,7 @@ fn cut(input: Input, end: usize, taken: usize) -> Input
 
 // Whether a line of which that much is held, and perhaps more was dropped, is longer than the longest.
 fn is_long(dropped: bool, size: usize) -> bool
-    ensures { λ r. ⌜ (r ≡ false → size ≤ 4096) ⌝ }
+    ensures { λ r. ⌜ IsLong dropped size r ⌝ }
 {
     if dropped {
         return true;
@@ -103,12 +116,13 @@ fn last_line(input: Input) -> Input
     requires { ⌜ SoundInput input ⌝ }
     ensures { λ r. ⌜ LastLine input r ⌝ }
 {
-    let read = input.read;
+    let source = input.source;
+    let fill = source::filled(source);
     if input.long {
-        return cut(input, read, read);
+        return cut(input, fill, fill);
     }
-    if input.taken < read {
-        return cut(input, read, read);
+    if input.taken < fill {
+        return cut(input, fill, fill);
     }
     input
 }
@@ -116,30 +130,28 @@ fn last_line(input: Input) -> Input
 // A line that is already longer than the longest is dropped, as far as it was read.
 fn shortened(before: Input) -> Input
     requires { ⌜ SoundInput before ⌝ }
-    ensures { λ r. ⌜ Goes before r ⌝ }
+    ensures { λ r. ⌜ Shortened before r ⌝ }
 {
     let mut input = before;
-    if LONGEST_LINE < input.read - input.taken {
+    let source = input.source;
+    let fill = source::filled(source);
+    if LONGEST_LINE < fill - input.taken {
         input.long = true;
-        input.taken = input.read;
+        input.taken = fill;
     }
     input
 }
 
-// Reads once, behind what is not yet taken, which is moved to the start.
-fn refilled(octets: &mut [u8], before: Input) -> Input
-    requires { ⌜ length (now octets) ≡ 65536 ⌝ }
+// Reads once, behind what is not yet taken.
+fn refilled(block: &mut [u8], before: Input) -> Input
+    requires { ⌜ length (now block) ≡ 65536 ⌝ }
     requires { ⌜ SoundInput before ⌝ }
-    ensures { λ r. ⌜ Goes before r ⌝ }
+    ensures { λ r. ⌜ Refilled (now (block .entry)) (now (block .exit)) before r ⌝ }
 {
     let mut input = before;
-    let taken = input.taken;
-    let kept = input.read - taken;
-    block::shift(octets, taken, input.read);
-    let got = libc::read(0, &mut octets[kept..]);
-    let more = io::count(got, &octets[kept..]);
+    let source = input.source;
+    let more = source::read_more(block, input.taken, source);
+    input.source = more;
     input.taken = 0;
-    input.read = kept + more;
-    input.over = more == 0;
     input
 }

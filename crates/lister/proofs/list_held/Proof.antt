@@ -1,59 +1,42 @@
--- What is listed is what list_some finds in what is held.
+-- What is listed is what list_some finds in what is held, and that is written.
 use native.Mathlib.Omega.{arith}
 use mathlib.Core.Path.{sym}
 use lib.Seq.{length-take-le}
-use Rattle.lister.proofs.TurnLaws.{turned}
+use Rattle.lister.proofs.TurnLaws.{turned, text-found, text-put}
 use borrow.Author.Needs.{needs}
 use Rattle.lister.proofs.list_held.Statement.{statement}
 use Rattle.lister.proofs.list_held.Tie as tie
 
-sub-list-some : tie.Need-sub-list-some
-sub-list-some c = search needs
+slice-aggregate-write-listed : tie.Need-slice-aggregate-write-listed
+slice-aggregate-write-listed c = sym (length-take-le _ _ (omega (arith, c .before .before .before .list-some .ensures .room, c .before .before .before .list-some .kept .0)))
 
-part-list-some-start : tie.Need-part-list-some-start
-part-list-some-start c = search needs
-
-part-list-some-end : tie.Need-part-list-some-end
-part-list-some-end c = search needs
-
-list-some-requires : tie.Need-list-some-requires
-list-some-requires c κs = search needs
-
-slice-reshare-prefix-write-all : tie.Need-slice-reshare-prefix-write-all
-slice-reshare-prefix-write-all c = search needs
-
-slice-aggregate-write-all : tie.Need-slice-aggregate-write-all
-slice-aggregate-write-all c = sym (length-take-le _ _ (omega (arith, c .before .before .before .list-some .ensures .room, c .before .before .before .list-some .kept .0)))
-
-write-all-requires : tie.Need-write-all-requires
-write-all-requires c κs = search needs
-
-over-requires : tie.Need-over-requires
-over-requires c κs = search needs
-
-add-t14 : tie.Need-add-t14
-add-t14 c = search needs
-
-same-length : tie.Need-same-length
-same-length c = search needs
+write-listed-requires : tie.Need-write-listed-requires
+write-listed-requires c κs = (
+  text-put (c .before .before .before .before .before .before .before .before .before .before .before .args .buf .now) (c .before .before .before .before .before .before .before .before .before .before .before .args .held) (c .before .before .before .before .before .before .before .filled .result) (c .before .before .before .before .before .before .is-over .result) (c .before .before .before .list-some .result) (c .before .before .before .before .before .before .before .filled .ensures) (c .before .before .before .before .before .before .is-over .ensures) (c .before .before .before .list-some .ensures) (c .before .before .before .list-some .kept .0),
+  search needs,
+)
 
 returns : tie.Need-returns
 returns c =
-    turned (c .before .before .before .before .before .before .before .before .before .before .before .args .buf .now) (c .before .before .before .before .before .before .before .before .before .before .before .args .held) (c .before .before .before .before .before .before .list-some .result) (c .before .over .result) (c .before .before .write-all .result) (c .before .over .ensures)
-    (c .before .before .before .before .before .before .before .before .before .before .before .pre .0) (c .before .before .before .before .before .before .list-some .ensures)
+    turned (c .before .before .before .before .before .before .before .before .before .before .before .before .before .before .before .args .buf .now) (c .before .before .before .before .before .before .before .before .before .before .before .before .before .before .before .args .held) (c .before .before .before .before .before .before .before .before .before .before .before .filled .result) (c .before .before .before .before .before .before .before .before .before .before .is-over .result) (c .before .before .before .before .before .before .before .list-some .result) (c .before .over .result) (c .before .before .before .write-listed .result) (c .before .before .is-closed .result)
+    (c .before .before .before .before .before .before .before .before .before .before .before .filled .ensures) (c .before .before .before .before .before .before .before .before .before .before .is-over .ensures) (c .before .over .ensures) (c .before .before .is-closed .ensures) (c .before .before .before .before .before .before .before .before .before .before .before .before .before .before .before .pre .0) (c .before .before .before .before .before .before .before .list-some .ensures)
+    (text-found (c .before .before .before .before .before .before .before .before .before .before .before .before .before .before .before .args .buf .now) (c .before .before .before .before .before .before .before .before .before .before .before .before .before .before .before .args .held) (c .before .before .before .before .before .before .before .before .before .before .before .filled .result) (c .before .before .before .before .before .before .before .before .before .before .is-over .result) (c .before .before .before .before .before .before .before .list-some .result) (c .before .before .before .before .before .before .before .before .before .before .before .filled .ensures) (c .before .before .before .before .before .before .before .before .before .before .is-over .ensures) (c .before .before .before .before .before .before .before .list-some .ensures)) (c .before .before .before .write-listed .ensures)
 
 pub list-held-spec : {M : Type 1} → statement M
 list-held-spec =
     tie.close
     (tie.spec
-    sub-list-some
-    part-list-some-start
-    part-list-some-end
-    list-some-requires
-    slice-reshare-prefix-write-all
-    slice-aggregate-write-all
-    write-all-requires
-    over-requires
-    add-t14
-    same-length
+    (λ c κs. search needs)
+    (λ c κs. search needs)
+    (λ c. search needs)
+    (λ c. search needs)
+    (λ c. search needs)
+    (λ c κs. search needs)
+    (λ c. search needs)
+    slice-aggregate-write-listed
+    write-listed-requires
+    (λ c κs. search needs)
+    (λ c κs. search needs)
+    (λ c. search needs)
+    (λ c. search needs)
     returns)

@@ -1,56 +1,39 @@
--- What is held stays sound, and no line is ready; the turns left fall.
-use mathlib.Core.Path.{_≡_, _∙_}
+-- The search stands where reads in a row and what was dropped brought it; the reads left fall.
+use mathlib.Core.Path.{_≡_, sym, _∙_}
 use mathlib.Core.Bool.{false}
-use Rattle.streaming.proofs.LineLaws.{line-found, last-found, no-line}
-use Rattle.streaming.specs.Streaming.{SoundInput}
+use Rattle.streaming.specs.Inputs.{SoundInput}
+use Rattle.streaming.proofs.SeekLaws.{Seeking, seek-start, seek-turn, next-found, next-last, next-many, next-from}
 use borrow.Author.Needs.{needs}
 use Rattle.streaming.proofs.input.next_line.Statement.{statement}
 use Rattle.streaming.proofs.input.next_line.Tie as tie
 
 abbrev Inv-loop : tie.InvT-loop
-Inv-loop block₀ input₀ turns₀ block input turns = SoundInput input × (input .ready ≡ false)
+Inv-loop block₀ input₀ reads₀ block input reads = SoundInput input × (input .ready ≡ false) × Seeking block₀ block input₀ input reads
 
 abbrev μ-loop : tie.MeasureT-loop
-μ-loop block₀ input₀ turns₀ block input turns = turns
+μ-loop block₀ input₀ reads₀ block input reads = reads
 
 loop-holds : tie.Need-loop-holds Inv-loop μ-loop
-loop-holds c = search needs
-
-newline-requires : tie.Need-newline-requires Inv-loop μ-loop
-newline-requires c κs = search needs
-
-add-cut : tie.Need-add-cut Inv-loop μ-loop
-add-cut c = search needs
-
-cut-requires : tie.Need-cut-requires Inv-loop μ-loop
-cut-requires c κs = search needs
+loop-holds c = (c .started .ensures .sound, c .started .ensures .not-ready, seek-start (c .started .ensures .not-long))
 
 returns : tie.Need-returns Inv-loop μ-loop
-returns c = line-found _ _ (search needs) (c .before .before .before .newline .ensures) (c .before .if1 .taken) (c .cut .ensures)
-
-last-line-requires : tie.Need-last-line-requires Inv-loop μ-loop
-last-line-requires c κs = search needs
+returns c =
+    let fill = c .before .before .filled .ensures in
+    next-from (c .before .before .before .before .before .before .before .before .before .started .ensures) (next-found (c .before .before .before .before .before .before .before .before .loop .inv .2) (search needs) (c .before .before .before .before .newline .ensures) (search needs) (c .cut .ensures))
 
 returns-2 : tie.Need-returns-2 Inv-loop μ-loop
-returns-2 c = last-found _ _ (search needs) (c .before .before .before .before .newline .ensures) (search needs) (c .before .before .if1 .left) (c .before .if2 .taken) (search needs) (c .last-line .ensures)
-
-shortened-requires : tie.Need-shortened-requires Inv-loop μ-loop
-shortened-requires c κs = search needs
-
-refilled-requires : tie.Need-refilled-requires Inv-loop μ-loop
-refilled-requires c κs = search needs
-
-sub-turns : tie.Need-sub-turns Inv-loop μ-loop
-sub-turns c = search needs
-
-loop-less : tie.Need-loop-less Inv-loop μ-loop
-loop-less c = search needs
+returns-2 c =
+    next-from (c .before .before .before .before .before .before .before .before .before .before .before .started .ensures) (next-last (c .before .before .before .before .before .before .before .before .before .before .loop .inv .2) (search needs) (search needs) (c .before .before .before .before .before .before .before .before .before .before .loop .inv .1) (c .before .before .before .before .before .before .newline .ensures) (search needs) (sym (c .before .before .is-over .ensures) ∙ c .before .if2 .taken) (c .last-line .ensures))
 
 loop-again : tie.Need-loop-again Inv-loop μ-loop
-loop-again c = (c .refilled .ensures .sound, c .refilled .ensures .same-ready ∙ c .before .shortened .ensures .same-ready ∙ c .before .before .before .before .before .before .before .before .before .before .loop .inv .1)
+loop-again c = (
+  c .refilled .ensures .sound,
+  c .refilled .ensures .same-ready ∙ c .before .shortened .ensures .same-ready ∙ c .before .before .before .before .before .before .before .before .before .before .before .before .loop .inv .1,
+  seek-turn (c .before .before .before .before .before .before .before .before .before .before .before .before .loop .inv .2) (search needs) (search needs) (search needs) (c .before .before .before .before .before .before .before .before .newline .ensures) (search needs) (sym (c .before .before .before .before .is-over .ensures) ∙ c .before .before .before .if2 .left) (c .before .shortened .ensures) (c .refilled .ensures),
+)
 
 returns-3 : tie.Need-returns-3 Inv-loop μ-loop
-returns-3 c = no-line (c .before .loop .inv .0) (c .before .loop .inv .1)
+returns-3 c = next-from (c .before .before .started .ensures) (next-many (c .before .loop .inv .2) (search needs) (c .before .loop .inv .1) (search needs))
 
 pub next-line-spec : {M : Type 1} → statement M
 next-line-spec =
@@ -58,16 +41,19 @@ next-line-spec =
     (tie.spec
     Inv-loop
     μ-loop
+    (λ c κs. search needs)
     loop-holds
-    newline-requires
-    add-cut
-    cut-requires
+    (λ c κs. search needs)
+    (λ c κs. search needs)
+    (λ c. search needs)
+    (λ c κs. search needs)
     returns
-    last-line-requires
+    (λ c κs. search needs)
+    (λ c κs. search needs)
     returns-2
-    shortened-requires
-    refilled-requires
-    sub-turns
-    loop-less
+    (λ c κs. search needs)
+    (λ c κs. search needs)
+    (λ c. search needs)
+    (λ c. search needs)
     loop-again
     returns-3)

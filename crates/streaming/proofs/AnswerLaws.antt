@@ -1,0 +1,223 @@
+-- The steps of a run that answers lines, and what a whole run has answered.
+use Prim.Native.Nat.{ℕ, _+_, _-_, _≤_, _<_}
+use mathlib.Core.Path.{_≡_, refl, sym, ap, _∙_, subst}
+use mathlib.Core.Bool.{Bool, true, false}
+use mathlib.Core.List.{List, [], _∷_, _++_, append-nil, append-assoc}
+use native.Mathlib.Omega.{arith}
+use lib.Dec.{T}
+use lib.ListN.{length, take, drop, length-append}
+use Rattle.printing.specs.Printing.{endText}
+use Rattle.streaming.specs.declared.input.Input.{Input}
+use Rattle.streaming.specs.declared.output.Output.{Output}
+use Rattle.streaming.specs.declared.output.Run.{Run}
+use Rattle.streaming.specs.Sources.{unreadYet, octetsFrom, Goes, here}
+use Rattle.streaming.specs.Lines.{linesOf}
+use Rattle.streaming.specs.Inputs.{noInput, SoundInput, Mark, newline, LineTaken, NoLine, nothing, mostOctets}
+use Rattle.streaming.specs.Inputs as inputs
+use Rattle.streaming.specs.Outputs.{noOutput, SoundOutput, PutOut, WritesEnd}
+use Rattle.streaming.specs.Answering.{LinesRead, Stops, closed, over, many, Answers, none, more, AnswerPut, Answering, Stopped, Ran}
+use Rattle.streaming.proofs.SourceLaws.{goes-parts, goes-over, goes-then}
+use Rattle.streaming.proofs.LineLaws.{line-first, line-last, no-lines, few-lines}
+use Rattle.streaming.proofs.OutputLaws.{put-nothing}
+
+-- ---- the lines
+
+abbrev held : List ℕ → Input → List ℕ
+held block i = octetsFrom block (i .taken) (i .source)
+
+none-held : (block : List ℕ) (i : Input) → i .taken ≡ i .source .fill → held block i ≡ []
+none-held block i e = let z : i .source .fill - i .taken ≡ 0 = omega arith in rw z
+
+-- ---- the first lines
+
+-- lines that were taken before any is answered
+pub record Taken (first : List (List ℕ)) (start block : List ℕ) (i : Input) : Type 0 where
+  pub asked : LinesRead start block i
+  pub these : asked .lines ≡ first
+  pub whole : asked .dropped ≡ []
+
+pub none-taken : (block : List ℕ) {i : Input} → i ≡ noInput → SoundInput i × Taken [] block block i
+none-taken block e =
+    subst (λ (i : Input). SoundInput i × Taken [] block block i) (sym e) (
+      record { order = omega arith; block = omega arith; line = omega arith; inside = omega arith },
+      record {
+        asked = record { read = []; taken = []; lines = []; dropped = []; goes = here; parts = λ later all. refl };
+        these = refl;
+        whole = refl;
+      },
+    )
+
+module _ {start block : List ℕ} {i : Input} (l : LinesRead start block i) (whole : l .dropped ≡ []) (after : List ℕ) (j : Input) where
+  -- whatever comes later stands behind what is held
+  on : {read taken : List ℕ} → Goes block (i .taken) (i .source) after (j .taken) (j .source) read taken → (later : List ℕ) → (j .source .over ≡ true → later ≡ [])
+      → linesOf ((l .read ++ read) ++ later) ≡ l .lines ++ linesOf (taken ++ (held after j ++ later))
+  on {read} {taken} g later all =
+      let none-more : i .source .over ≡ true → read ++ later ≡ [] = λ e. rw (goes-over g e .1, all (goes-over g e .0)) in
+      rw (append-assoc (l .read) read later) (l .parts (read ++ later) none-more)
+      ∙ ap (λ (s : List ℕ). l .lines ++ linesOf s)
+      (ap (λ (d : List ℕ). d ++ (held block i ++ (read ++ later))) whole ∙ sym (append-assoc (held block i) read later) ∙ ap (λ (s : List ℕ). s ++ later) (goes-parts g) ∙ append-assoc taken (held after j) later)
+
+  -- a line more
+  pub line-read : LineTaken block after i j → LinesRead start after j
+  line-read t = record {
+    read = l .read ++ t .read;
+    taken = l .taken ++ (t .line ++ t .mark);
+    lines = l .lines ++ t .line ∷ [];
+    dropped = [];
+    goes = goes-then (l .goes) (t .goes);
+    parts = λ later all. on (t .goes) later all ∙ by (t .mark) (t .ended) later all ∙ sym (append-assoc (l .lines) (t .line ∷ []) (linesOf (held after j ++ later)));
+  }
+    where
+      by : (mark : List ℕ) → Mark j (t .line) mark → (later : List ℕ) → (j .source .over ≡ true → later ≡ [])
+          → l .lines ++ linesOf ((t .line ++ mark) ++ (held after j ++ later)) ≡ l .lines ++ (t .line ∷ linesOf (held after j ++ later))
+      by mark newline later all =
+          ap (λ (s : List (List ℕ)). l .lines ++ s) (rw (append-assoc (t .line) (10 ∷ []) (held after j ++ later)) (line-first (t .line) (held after j ++ later) (t .whole)))
+      by mark (inputs.over o e some) later all =
+          ap (λ (s : List (List ℕ)). l .lines ++ s)
+          (rw (all o, none-held after j e, append-nil, append-nil, no-lines) (line-last (t .line) (t .whole) some))
+
+  -- no line more
+  pub record NoMore (o : Output) : Type 0 where
+    pub asked : LinesRead start after j
+    pub same : asked .lines ≡ l .lines
+    pub stops : Stops asked o
+
+  pub no-line : (o : Output) → NoLine block after i j → NoMore o
+  no-line o (nothing {read} g e f) = record {
+    asked = record { read = l .read ++ read; taken = l .taken ++ []; lines = l .lines; dropped = []; goes = goes-then (l .goes) g; parts = on g };
+    same = refl;
+    stops = over e f refl;
+  }
+  no-line o (inputs.many {read} {taken} g most) = record {
+    asked = record { read = l .read ++ read; taken = l .taken ++ taken; lines = l .lines; dropped = taken; goes = goes-then (l .goes) g; parts = on g };
+    same = refl;
+    stops = many (omega (arith, most, length-append (l .read) read));
+  }
+
+-- the first line is taken
+pub line-taken : {start block after : List ℕ} {i j : Input} → Taken [] start block i → (t : LineTaken block after i j) → Taken (t .line ∷ []) start after j
+unfolding line-read
+line-taken {after = after} {j = j} n t = record {
+  asked = line-read (n .asked) (n .whole) after j t;
+  these = ap (λ (l : List (List ℕ)). l ++ t .line ∷ []) (n .these);
+  whole = refl;
+}
+
+-- no more lines are taken than octets are read
+pub few-taken : {start block : List ℕ} {i : Input} (l : LinesRead start block i) → length (l .lines) ≤ length (l .read)
+few-taken {start} {block} {i} l =
+    let e = l .parts [] (λ _. refl) in
+    let n = few-lines (l .read) in
+    omega (arith, length-append (l .lines) (linesOf (l .dropped ++ (held block i ++ []))), ap length (rw append-nil at e))
+
+-- ---- the answers
+
+-- a run that goes on
+pub record GoesOn (Answer : ℕ → List ℕ → List ℕ → Type 0) (first : List (List ℕ)) (start block out : List ℕ) (i : Input) (o : Output) : Type 0 where
+  pub at : Answering Answer first start block out i o
+  pub whole : at .asked .dropped ≡ []
+
+module _ {Answer : ℕ → List ℕ → List ℕ → Type 0} where
+  answers-more : {n : ℕ} {lines : List (List ℕ)} {text line t : List ℕ} → Answers Answer n lines text → Answer (n + length lines + 1) line t
+      → Answers Answer n (lines ++ line ∷ []) (text ++ t)
+  answers-more {n} {line = line} {t = t} none a =
+      let e : n + 0 + 1 ≡ n + 1 = omega arith in
+      subst (λ (u : List ℕ). Answers Answer n (line ∷ []) u) (append-nil t) (more (rw e at a) none)
+  answers-more {n} {line = line} {t = t} (more {line = l} {t = u} {text = text} {lines = lines} b rest) a =
+      let e : n + length (l ∷ lines) + 1 ≡ n + 1 + length lines + 1 = omega arith in
+      subst (λ (v : List ℕ). Answers Answer n (l ∷ (lines ++ line ∷ [])) v) (sym (append-assoc u text t)) (more b (answers-more rest (rw e at a)))
+
+  -- nothing is answered after these lines
+  pub begun : {start block : List ℕ} {i : Input} {o : Output} {first : List (List ℕ)} (out : List ℕ) (l : LinesRead start block i) → l .lines ≡ first → l .dropped ≡ [] → o ≡ noOutput
+      → SoundOutput o × (o .sink .closed ≡ false) × GoesOn Answer first start block out i o
+  begun {start} {block} {i} {o} {first} out l these whole e =
+      subst (λ (o : Output). SoundOutput o × (o .sink .closed ≡ false) × GoesOn Answer first start block out i o) (sym e) (
+        record { answers = omega arith },
+        refl,
+        record {
+          at = record { asked = l; lines = []; text = []; these = these ∙ sym (append-nil first); answers = none; count = refl; put = put-nothing out };
+          whole = whole;
+        },
+      )
+
+  module _ {first : List (List ℕ)} {start block out : List ℕ} {i : Input} {o : Output} (g : GoesOn Answer first start block out i o) where
+    -- an answer more
+    pub one-more : {after out′ : List ℕ} {j : Input} {r : Output} → LineTaken block after i j → AnswerPut Answer after out out′ j o r → GoesOn Answer first start after out′ j r
+    unfolding line-read
+    one-more {after} {out′} {j} {r} t a = record {
+      at = record {
+        asked = line-read (g .at .asked) (g .whole) after j t;
+        lines = g .at .lines ++ t .line ∷ [];
+        text = g .at .text ++ a .text;
+        these = ap (λ (l : List (List ℕ)). l ++ t .line ∷ []) (g .at .these) ∙ append-assoc first (g .at .lines) (t .line ∷ []);
+        answers = answers-more (g .at .answers) (subst (λ (n : ℕ). Answer (n + 1) (t .line) (a .text)) (g .at .count ∙ omega arith) (a .answer (t .line) (t .is)));
+        count = a .count ∙ omega (arith, g .at .count, length-append (g .at .lines) (t .line ∷ []));
+        put = a .put (g .at .text) (g .at .put);
+      };
+      whole = refl;
+    }
+
+    -- no line is left
+    pub none-left : {after : List ℕ} {j : Input} → SoundOutput o → NoLine block after i j → Stopped Answer first start after out (record { input = j; output = o })
+    none-left {after} {j} sound n =
+        let m = no-line (g .at .asked) (g .whole) after j o n in
+        record {
+          at = record { asked = m .asked; lines = g .at .lines; text = g .at .text; these = m .same ∙ g .at .these; answers = g .at .answers; count = g .at .count; put = g .at .put };
+          stops = m .stops;
+          sound = sound;
+        }
+
+    -- the output is closed
+    pub is-closed : SoundOutput o → o .sink .closed ≡ true → Stopped Answer first start block out (record { input = i; output = o })
+    is-closed sound e = record { at = g .at; stops = closed e; sound = sound }
+
+    -- more lines than a run answers
+    pub too-many : SoundOutput o → mostOctets ≤ o .answered → Stopped Answer first start block out (record { input = i; output = o })
+    too-many sound h = record {
+      at = g .at;
+      stops = many (omega (arith, h, g .at .count, few-taken (g .at .asked), ap length (g .at .these), length-append first (g .at .lines)));
+      sound = sound;
+    }
+
+  -- the last line
+  pub ran : {first : List (List ℕ)} {start block out out′ : List ℕ} {s : Run} {o : Output} → Stopped Answer first start block out s → WritesEnd out out′ (s .output) o
+      → Ran Answer first start block out′ (record { input = s .input; output = o })
+  ran {out′ = out′} {s = s} {o = o} a w = record {
+    asked = a .at .asked;
+    lines = a .at .lines;
+    text = a .at .text;
+    these = a .at .these;
+    answers = a .at .answers;
+    stops = by (a .stops);
+    put = rw (a .at .count) at (w .text (a .at .text) (a .at .put));
+    all = w .none-left;
+  }
+    where
+      by : Stops (a .at .asked) (s .output) → Stops (a .at .asked) o
+      by (closed e) = closed (w .stays-closed e)
+      by (over e f d) = over e f d
+      by (many h) = many h
+
+  -- ---- WHAT A WHOLE RUN HAS ANSWERED
+
+  -- the answers to these lines have one text, where a line has one answer
+  pub answers-one : ((n : ℕ) (line t u : List ℕ) → Answer n line t → Answer n line u → t ≡ u) → {n : ℕ} {lines : List (List ℕ)} {t u : List ℕ}
+      → Answers Answer n lines t → Answers Answer n lines u → t ≡ u
+  answers-one one none none = refl
+  answers-one one (more a p) (more b q) = let e = one _ _ _ _ a b in let f = answers-one one p q in cc
+
+  module _ {first : List (List ℕ)} {start block out : List ℕ} {r : Run} (ran : Ran Answer first start block out r) (few : length (ran .asked .read) < mostOctets) (is-open : r .output .sink .closed ≡ false) where
+    -- IT ANSWERS EVERY LINE, however the reads cut them: those of all octets that were read are the first ones and those that are answered
+    pub answers-all : linesOf (ran .asked .read) ≡ first ++ ran .lines
+    answers-all = by (ran .stops)
+      where
+        by : Stops (ran .asked) (r .output) → linesOf (ran .asked .read) ≡ first ++ ran .lines
+        by (closed e) = absurd (subst T (sym e ∙ is-open) tt)
+        by (many h) = absurd (omega (arith, h, few))
+        by (over e f d) =
+            let none : held block (r .input) ≡ [] = none-held block (r .input) f in
+            (rw append-nil at (ran .asked .parts [] (λ _. refl))) ∙ (rw (d, none, no-lines, append-nil) (ran .these))
+
+    -- IT WRITES ALL: the answers and the last line
+    pub writes-all : ran .put .written ≡ ran .text ++ endText (length (ran .lines))
+    writes-all = sym (ran .put .parts ∙ ap (λ (l : List ℕ). ran .put .written ++ l) (ran .put .kept is-open ∙ rw (ran .all is-open)) ∙ append-nil (ran .put .written))
