@@ -5,44 +5,100 @@ use asking::Answer;
 use asking::Asked;
 use streaming::Input;
 use streaming::Output;
+use streaming::Run;
 ghost use mathlib.Core.Path.{_≡_};
-ghost use Prim.Native.Nat.{_+_, _≤_};
+ghost use mathlib.Core.Bool.{false};
+ghost use mathlib.Core.List.{List};
+ghost use Prim.Native.Nat.{ℕ, _+_, _≤_, _<_};
 ghost use lib.ListN.{length};
-ghost use Rattle.streaming.specs.Streaming.{SoundInput, SoundOutput};
+ghost use Rattle.streaming.specs.Inputs.{SoundInput, Line, mostOctets};
+ghost use Rattle.streaming.specs.Outputs.{SoundOutput};
+ghost use Rattle.streaming.specs.Answering.{AnswerPut};
+ghost use Rattle.chooser.specs.Choosing.{Lists, LineAsks, LineAnswer, ChoosesAll, AnswersRest, StoppedChoosing, PutsChosen};
 
 // No answer takes more octets.
 const LONGEST_ANSWER: usize = 65;
 
-// The receiver's list, in the line that is held.
-fn list_held(block: &[u8], input: Input) -> u16
-    requires { ⌜ length (now block) ≡ 65536 ⌝ }
-    requires { ⌜ SoundInput input ⌝ }
-{
-    if input.long {
-        return 0;
-    }
-    let from = input.from;
-    let end = input.end;
-    asking::list_in(&block[from..end])
+// No input has so many lines.
+const MOST_LINES: u64 = 4611686018427387904;
+
+fn main() {
+    let mut out = io::large_buffer();
+    let mut block = io::large_buffer();
+    run(&mut out, &mut block);
 }
 
-// The request in the line that is held.
-fn request_held(block: &[u8], input: Input) -> Asked
-    requires { ⌜ length (now block) ≡ 65536 ⌝ }
-    requires { ⌜ SoundInput input ⌝ }
+// Answers every request of the input, and says how many there were. Answers where it stands then.
+fn run(out: &mut [u8; 65536], block: &mut [u8; 65536]) -> Run
+    ensures { λ r. ⌜ ChoosesAll (now (block .entry)) (now (block .exit)) (now (out .exit)) r ⌝ }
 {
-    if input.long {
-        return Asked::Unreadable;
+    let answered = answer_input(out, block);
+    let input = answered.input;
+    let output = streaming::write_end(out, answered.output);
+    Run { input, output }
+}
+
+// Takes the receiver's list from the first line, and answers every line after it.
+fn answer_input(out: &mut [u8; 65536], block: &mut [u8; 65536]) -> Run
+    ensures { λ r. ⌜ StoppedChoosing (now (block .entry)) (now (block .exit)) (now (out .exit)) r ⌝ }
+{
+    let first = streaming::next_line(block, streaming::no_input());
+    if !first.ready {
+        let output = streaming::no_output();
+        return Run {
+            input: first,
+            output,
+        };
     }
-    let from = input.from;
-    let end = input.end;
-    asking::request_in(&block[from..end])
+    let list = list_held(block, first);
+    answer_lines(out, block, first, list)
+}
+
+// Answers every line after the first. The end of the input ends it, and a closed output.
+fn answer_lines(out: &mut [u8; 65536], block: &mut [u8; 65536], first: Input, list: u16) -> Run
+    requires { ⌜ SoundInput first ⌝ }
+    ensures { λ r. ⌜ AnswersRest list first (now (block .entry)) (now (block .exit)) (now (out .exit)) r ⌝ }
+{
+    let mut input = first;
+    let mut output = streaming::no_output();
+    while output.answered < MOST_LINES {
+        input = streaming::next_line(block, input);
+        if !input.ready {
+            return Run { input, output };
+        }
+        output = answer_line(out, block, input, list, output);
+        if streaming::is_closed(output.sink) {
+            return Run { input, output };
+        }
+    }
+    Run { input, output }
+}
+
+// Answers the line that is held.
+fn answer_line(
+    out: &mut [u8; 65536],
+    block: &[u8; 65536],
+    input: Input,
+    list: u16,
+    before: Output,
+) -> Output
+    requires { ⌜ SoundInput input ⌝ }
+    requires { ⌜ SoundOutput before ⌝ }
+    requires { ⌜ before .sink .closed ≡ false ⌝ }
+    requires { ⌜ before .answered < mostOctets ⌝ }
+    ensures { λ r. ⌜ AnswerPut (LineAnswer list) (now (block .entry)) (now (out .entry)) (now (out .exit)) input before r ⌝ }
+{
+    let mut output = streaming::make_room(out, before, LONGEST_ANSWER);
+    output.answered += 1;
+    let asked = request_held(block, input);
+    output.put = put_chosen(out, output.put, output.answered, asked, list);
+    output
 }
 
 // Puts the answer, and answers the place after it. No message is longer than 14 octets.
 fn put_chosen(out: &mut [u8; 65536], at: usize, number: u64, asked: Asked, list: u16) -> usize
     requires { ⌜ at + 65 ≤ 65536 ⌝ }
-    ensures { λ r. ⌜ r ≤ 65536 ⌝ }
+    ensures { λ r. ⌜ PutsChosen list number asked (now (out .entry)) at (now (out .exit)) r ⌝ }
 {
     let Asked::Request(request) = asked else {
         return asking::put_answer(out, at, number, Answer::Unreadable, b"");
@@ -60,59 +116,30 @@ fn put_chosen(out: &mut [u8; 65536], at: usize, number: u64, asked: Asked, list:
     )
 }
 
-// Answers the line that is held.
-fn answer_line(
-    out: &mut [u8; 65536],
-    block: &[u8; 65536],
-    input: Input,
-    list: u16,
-    before: Output,
-) -> Output
+// The receiver's list, in the line that is held.
+fn list_held(block: &[u8], input: Input) -> u16
+    requires { ⌜ length (now block) ≡ 65536 ⌝ }
     requires { ⌜ SoundInput input ⌝ }
-    requires { ⌜ SoundOutput before ⌝ }
-    ensures { λ r. ⌜ SoundOutput r ⌝ }
+    ensures { λ r. ⌜ ((line : List ℕ) → Line (now (block .entry)) input line → Lists line r) ⌝ }
 {
-    let mut output = streaming::make_room(out, before, LONGEST_ANSWER);
-    output.answered = streaming::counted(output.answered);
-    let asked = request_held(block, input);
-    output.put = put_chosen(out, output.put, output.answered, asked, list);
-    output
-}
-
-// Answers every line after the first.
-fn answer_lines(out: &mut [u8; 65536], block: &mut [u8; 65536], first: Input, list: u16) -> Output
-    requires { ⌜ SoundInput first ⌝ }
-    ensures { λ r. ⌜ SoundOutput r ⌝ }
-{
-    let mut input = first;
-    let mut output = streaming::no_output();
-    let mut turns = u64::MAX;
-    while turns > 0 {
-        input = streaming::next_line(block, input);
-        if !input.ready {
-            return output;
-        }
-        output = answer_line(out, block, input, list, output);
-        if output.closed {
-            return output;
-        }
-        turns -= 1;
+    if input.long {
+        return 0;
     }
-    output
+    let from = input.from;
+    let end = input.end;
+    asking::list_in(&block[from..end])
 }
 
-// Takes the receiver's list, and answers every line after it.
-fn answer_input(out: &mut [u8; 65536], block: &mut [u8; 65536]) -> Output
-    ensures { λ r. ⌜ SoundOutput r ⌝ }
+// The request in the line that is held.
+fn request_held(block: &[u8], input: Input) -> Asked
+    requires { ⌜ length (now block) ≡ 65536 ⌝ }
+    requires { ⌜ SoundInput input ⌝ }
+    ensures { λ r. ⌜ ((line : List ℕ) → Line (now (block .entry)) input line → LineAsks line r) ⌝ }
 {
-    let first = streaming::next_line(block, streaming::no_input());
-    let list = list_held(block, first);
-    answer_lines(out, block, first, list)
-}
-
-fn main() {
-    let mut out = io::large_buffer();
-    let mut block = io::large_buffer();
-    let output = answer_input(&mut out, &mut block);
-    streaming::write_end(&mut out, output);
+    if input.long {
+        return Asked::Unreadable;
+    }
+    let from = input.from;
+    let end = input.end;
+    asking::request_in(&block[from..end])
 }

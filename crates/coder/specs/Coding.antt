@@ -17,11 +17,11 @@ pub record Prints (line : List ℕ) (r : Printed) : Type 0 where
   pub too-long : longestLine < length line → r ≡ Unreadable
 
 -- the n-th line's answer, as text
-pub record Answer (n : ℕ) (line text : List ℕ) : Type 0 where
+pub record LineAnswer (n : ℕ) (line text : List ℕ) : Type 0 where
   pub printed : Printed
   pub prints : Prints line printed
   pub is : text ≡ lineText n printed
 
 -- WHAT THE PROGRAM DOES: it answers every line
 abbrev pub Codes : List ℕ → List ℕ → List ℕ → Run → Type 0
-Codes start block out r = Ran Answer [] start block out r
+Codes start block out r = Ran LineAnswer [] start block out r

@@ -12,7 +12,7 @@ ghost use lib.ListN.{length};
 ghost use Rattle.streaming.specs.Inputs.{SoundInput, Line, mostOctets};
 ghost use Rattle.streaming.specs.Outputs.{SoundOutput};
 ghost use Rattle.streaming.specs.Answering.{AnswerPut, Stopped};
-ghost use Rattle.coder.specs.Coding.{Prints, Answer, Codes};
+ghost use Rattle.coder.specs.Coding.{Prints, LineAnswer, Codes};
 
 // No answer takes more octets.
 const LONGEST_ANSWER: usize = 46;
@@ -38,7 +38,7 @@ fn run(out: &mut [u8; 65536], block: &mut [u8; 65536]) -> Run
 
 // Answers every line of the input. The end of the input ends it, and a closed output.
 fn answer_lines(out: &mut [u8; 65536], block: &mut [u8; 65536]) -> Run
-    ensures { λ r. ⌜ Stopped Answer [] (now (block .entry)) (now (block .exit)) (now (out .exit)) r ⌝ }
+    ensures { λ r. ⌜ Stopped LineAnswer [] (now (block .entry)) (now (block .exit)) (now (out .exit)) r ⌝ }
 {
     let mut input = streaming::no_input();
     let mut output = streaming::no_output();
@@ -61,7 +61,7 @@ fn answer_line(out: &mut [u8; 65536], block: &[u8; 65536], input: Input, before:
     requires { ⌜ SoundOutput before ⌝ }
     requires { ⌜ before .sink .closed ≡ false ⌝ }
     requires { ⌜ before .answered < mostOctets ⌝ }
-    ensures { λ r. ⌜ AnswerPut Answer (now (block .entry)) (now (out .entry)) (now (out .exit)) input before r ⌝ }
+    ensures { λ r. ⌜ AnswerPut LineAnswer (now (block .entry)) (now (out .entry)) (now (out .exit)) input before r ⌝ }
 {
     let mut output = streaming::make_room(out, before, LONGEST_ANSWER);
     output.answered += 1;

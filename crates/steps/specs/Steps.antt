@@ -2,6 +2,8 @@
 use Prim.Native.Nat.{ℕ, _+_}
 use mathlib.Core.List.{List, [], _∷_, _++_}
 use lib.ListN.{take, drop}
+use Rattle.ground.specs.Answers.{numberOf}
+use Rattle.ground.specs.declared.refusals.Refusal.the-variants.{FrameBroken}
 use Rattle.text.specs.Text.{decimal}
 use Rattle.printing.specs.Printing.{endText}
 use Rattle.wording.specs.Wording.{messageText}
@@ -14,7 +16,7 @@ lineOf number kind message = decimal number ++ 32 ∷ decimal kind ++ 32 ∷ mes
 
 -- a broken frame: NUMBER - 11
 unfoldable pub brokenOf : ℕ → List ℕ
-brokenOf number = decimal number ++ 32 ∷ 45 ∷ 32 ∷ 49 ∷ 49 ∷ 10 ∷ []
+brokenOf number = decimal number ++ 32 ∷ 45 ∷ 32 ∷ decimal (numberOf FrameBroken) ++ 10 ∷ []
 
 -- what is listed for the frame at the start of s, after so many unbroken ones; a broken one ends the run. The last line,
 -- `endText`: end and the number of unbroken frames

@@ -1,5 +1,6 @@
 // What is listed for a frame, put into a lent buffer: document 01, "The lister". Each function answers the place after what it put.
 use frames::Frame;
+use ground::Refusal;
 ghost use Prim.Native.Nat.{_+_, _≤_, _<_, _^_};
 ghost use lib.ListN.{length};
 ghost use Rattle.text.specs.Text.{PutsWithin};
@@ -38,9 +39,11 @@ fn put_line(out: &mut [u8], at: usize, number: u64, kind: u8, message: &[u8]) ->
 }
 
 fn put_broken(out: &mut [u8], at: usize, number: u64) -> usize
-    requires { ⌜ at + 26 ≤ length (now out) ⌝ }
-    ensures { λ r. ⌜ PutsWithin 26 (now (out .entry)) at (brokenOf number) (now (out .exit)) r ⌝ }
+    requires { ⌜ at + 44 ≤ length (now out) ⌝ }
+    ensures { λ r. ⌜ PutsWithin 44 (now (out .entry)) at (brokenOf number) (now (out .exit)) r ⌝ }
 {
-    let rest = text::put_decimal(out, at, number);
-    text::put_bytes(out, rest, b" - 11\n")
+    let dash = text::put_decimal(out, at, number);
+    let answer = text::put_bytes(out, dash, b" - ");
+    let newline = text::put_decimal(out, answer, ground::refusal_number(Refusal::FrameBroken));
+    text::put_byte(out, newline, 10)
 }

@@ -15,7 +15,7 @@ use Rattle.streaming.specs.Lines.{linesOf}
 use Rattle.streaming.specs.Inputs.{noInput, SoundInput, Mark, newline, LineTaken, NoLine, nothing, mostOctets}
 use Rattle.streaming.specs.Inputs as inputs
 use Rattle.streaming.specs.Outputs.{noOutput, SoundOutput, PutOut, WritesEnd}
-use Rattle.streaming.specs.Answering.{LinesRead, Stops, closed, over, many, Answers, none, more, AnswerPut, Answering, Stopped, Ran}
+use Rattle.streaming.specs.Answering.{LinesRead, Taken, Stops, closed, over, many, Answers, none, more, AnswerPut, Answering, Stopped, Ran}
 use Rattle.streaming.proofs.SourceLaws.{goes-parts, goes-over, goes-then}
 use Rattle.streaming.proofs.LineLaws.{line-first, line-last, no-lines, few-lines}
 use Rattle.streaming.proofs.OutputLaws.{put-nothing}
@@ -29,12 +29,6 @@ none-held : (block : List ℕ) (i : Input) → i .taken ≡ i .source .fill → 
 none-held block i e = let z : i .source .fill - i .taken ≡ 0 = omega arith in rw z
 
 -- ---- the first lines
-
--- lines that were taken before any is answered
-pub record Taken (first : List (List ℕ)) (start block : List ℕ) (i : Input) : Type 0 where
-  pub asked : LinesRead start block i
-  pub these : asked .lines ≡ first
-  pub whole : asked .dropped ≡ []
 
 pub none-taken : (block : List ℕ) {i : Input} → i ≡ noInput → SoundInput i × Taken [] block block i
 none-taken block e =
@@ -112,6 +106,9 @@ few-taken {start} {block} {i} l =
 
 -- ---- the answers
 
+pub empty-output : {o : Output} → o ≡ noOutput → SoundOutput o × (o .sink .closed ≡ false)
+empty-output e = subst (λ (o : Output). SoundOutput o × (o .sink .closed ≡ false)) (sym e) (record { answers = omega arith }, refl)
+
 -- a run that goes on
 pub record GoesOn (Answer : ℕ → List ℕ → List ℕ → Type 0) (first : List (List ℕ)) (start block out : List ℕ) (i : Input) (o : Output) : Type 0 where
   pub at : Answering Answer first start block out i o
@@ -127,18 +124,14 @@ module _ {Answer : ℕ → List ℕ → List ℕ → Type 0} where
       let e : n + length (l ∷ lines) + 1 ≡ n + 1 + length lines + 1 = omega arith in
       subst (λ (v : List ℕ). Answers Answer n (l ∷ (lines ++ line ∷ [])) v) (sym (append-assoc u text t)) (more b (answers-more rest (rw e at a)))
 
-  -- nothing is answered after these lines
-  pub begun : {start block : List ℕ} {i : Input} {o : Output} {first : List (List ℕ)} (out : List ℕ) (l : LinesRead start block i) → l .lines ≡ first → l .dropped ≡ [] → o ≡ noOutput
-      → SoundOutput o × (o .sink .closed ≡ false) × GoesOn Answer first start block out i o
-  begun {start} {block} {i} {o} {first} out l these whole e =
-      subst (λ (o : Output). SoundOutput o × (o .sink .closed ≡ false) × GoesOn Answer first start block out i o) (sym e) (
-        record { answers = omega arith },
-        refl,
-        record {
-          at = record { asked = l; lines = []; text = []; these = these ∙ sym (append-nil first); answers = none; count = refl; put = put-nothing out };
-          whole = whole;
-        },
-      )
+  -- nothing is answered after the first lines
+  pub begun : {first : List (List ℕ)} {start block : List ℕ} {i : Input} {o : Output} (out : List ℕ) → Taken first start block i → o ≡ noOutput → GoesOn Answer first start block out i o
+  begun {first} {start} {block} {i} {o} out t e =
+      subst (λ (o : Output). GoesOn Answer first start block out i o) (sym e)
+      (record {
+        at = record { asked = t .asked; lines = []; text = []; these = t .these ∙ sym (append-nil first); answers = none; count = refl; put = put-nothing out };
+        whole = t .whole;
+      })
 
   module _ {first : List (List ℕ)} {start block out : List ℕ} {i : Input} {o : Output} (g : GoesOn Answer first start block out i o) where
     -- an answer more
@@ -188,6 +181,7 @@ module _ {Answer : ℕ → List ℕ → List ℕ → Type 0} where
     text = a .at .text;
     these = a .at .these;
     answers = a .at .answers;
+    count = w .same-count ∙ a .at .count;
     stops = by (a .stops);
     put = rw (a .at .count) at (w .text (a .at .text) (a .at .put));
     all = w .none-left;

@@ -24,6 +24,12 @@ pub record LinesRead (start block : List ℕ) (i : Input) : Type 0 where
   pub parts : (later : List ℕ) → (i .source .over ≡ true → later ≡ [])
       → linesOf (read ++ later) ≡ lines ++ linesOf (dropped ++ (octetsFrom block (i .taken) (i .source) ++ later))
 
+-- these lines were taken, and nothing was dropped since
+pub record Taken (first : List (List ℕ)) (start block : List ℕ) (i : Input) : Type 0 where
+  pub asked : LinesRead start block i
+  pub these : asked .lines ≡ first
+  pub whole : asked .dropped ≡ []
+
 -- why a run stops: the output is closed, nothing is left to read, or more octets came than a run reads
 pub data Stops {start block : List ℕ} {i : Input} (asked : LinesRead start block i) (o : Output) : Type 0 where
   closed : o .sink .closed ≡ true → Stops asked o
@@ -68,6 +74,7 @@ module _ (Answer : ℕ → List ℕ → List ℕ → Type 0) where
     pub text : List ℕ
     pub these : asked .lines ≡ first ++ lines
     pub answers : Answers 0 lines text
+    pub count : r .output .answered ≡ length lines
     pub stops : Stops asked (r .output)
     pub put : PutOut (text ++ endText (length lines)) out (r .output)
     pub all : r .output .sink .closed ≡ false → r .output .put ≡ 0

@@ -1,6 +1,8 @@
 -- What is held of the input stays sound; a line more is counted.
 use Prim.Native.Nat.{_-_}
-use Rattle.streaming.specs.Streaming.{SoundInput}
+use mathlib.Core.List.{[]}
+use Rattle.streaming.specs.Inputs.{SoundInput}
+use Rattle.streaming.proofs.AnswerLaws.{none-taken}
 use borrow.Author.Needs.{needs}
 use Rattle.choices.proofs.take_lines.Statement.{statement}
 use Rattle.choices.proofs.take_lines.Tie as tie
@@ -15,7 +17,7 @@ no-input-requires : tie.Need-no-input-requires Inv-loop μ-loop
 no-input-requires c κs = search needs
 
 loop-holds : tie.Need-loop-holds Inv-loop μ-loop
-loop-holds c = search needs
+loop-holds c = none-taken [] (c .no-input .ensures) .0
 
 next-line-requires : tie.Need-next-line-requires Inv-loop μ-loop
 next-line-requires c κs = search needs

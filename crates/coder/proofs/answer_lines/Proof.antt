@@ -5,15 +5,15 @@ use mathlib.Core.List.{[]}
 use Prim.Native.Nat.{_-_}
 use Rattle.streaming.specs.Inputs.{SoundInput, mostOctets}
 use Rattle.streaming.specs.Outputs.{SoundOutput}
-use Rattle.streaming.proofs.AnswerLaws.{GoesOn, none-taken, begun, one-more, none-left, is-closed, too-many}
-use Rattle.coder.specs.Coding.{Answer}
+use Rattle.streaming.proofs.AnswerLaws.{GoesOn, none-taken, empty-output, begun, one-more, none-left, is-closed, too-many}
+use Rattle.coder.specs.Coding.{LineAnswer}
 use borrow.Author.Tests.{not-true, not-false}
 use borrow.Author.Needs.{needs}
 use Rattle.coder.proofs.answer_lines.Statement.{statement}
 use Rattle.coder.proofs.answer_lines.Tie as tie
 
 abbrev Inv-loop : tie.InvT-loop
-Inv-loop out₀ block₀ input₀ output₀ out block input output = SoundInput input × SoundOutput output × (output .sink .closed ≡ false) × GoesOn Answer [] block₀ block out input output
+Inv-loop out₀ block₀ input₀ output₀ out block input output = SoundInput input × SoundOutput output × (output .sink .closed ≡ false) × GoesOn LineAnswer [] block₀ block out input output
 
 abbrev μ-loop : tie.MeasureT-loop
 μ-loop out₀ block₀ input₀ output₀ out block input output = mostOctets - output .answered
@@ -21,8 +21,8 @@ abbrev μ-loop : tie.MeasureT-loop
 loop-holds : tie.Need-loop-holds Inv-loop μ-loop
 loop-holds c =
     let n = none-taken _ (c .before .no-input .ensures) in
-    let b = begun _ (n .1 .asked) (n .1 .these) (n .1 .whole) (c .no-output .ensures) in
-    (n .0, b .0, b .1, b .2)
+    let e = empty-output (c .no-output .ensures) in
+    (n .0, e .0, e .1, begun _ (n .1) (c .no-output .ensures))
 
 returns : tie.Need-returns Inv-loop μ-loop
 returns c = none-left (c .before .before .before .before .before .before .loop .inv .3) (c .before .before .before .before .before .before .loop .inv .1) (c .before .before .next-line .ensures .none (not-true _ (c .if2 .taken)))
