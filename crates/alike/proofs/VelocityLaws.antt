@@ -38,7 +38,7 @@ use Rattle.layout.specs.Rows.{lengthOf}
 use Rattle.layout.specs.Demands.{Listed, InFields, WriteAnswer, Writes}
 use Rattle.layout.specs.Velocities.{velocityKindOf, velocityOf, velocityValueOf, WritesVelocity}
 use Rattle.layout.proofs.TypeLaws.{no-velocity-kind}
-use Rattle.trips.proofs.DemandLaws.{sound}
+use Rattle.layout.proofs.DemandLaws.{sound}
 use Rattle.trips.proofs.WidthLaws.{velocityWidest, velocity-code-of}
 use Rattle.trips.proofs.ShapeRecords.{bit-back}
 use Rattle.trips.proofs.VelocityTrips.{type-back, velocity-of-values}

@@ -1,1 +1,2 @@
 pub mod ChosenLaws
+pub mod OneText

@@ -53,7 +53,7 @@ use Rattle.layout.specs.Rows.{tag, widthOf, lengthOf, message, spareZero}
 use Rattle.layout.specs.Demands.{Used, InFields}
 use Rattle.layout.specs.Shapes.{rowsIn, shapeIn, rowsOf, valueOf}
 use Rattle.layout.proofs.KindLaws.{no-point-width}
-use Rattle.trips.proofs.DemandLaws.{Readable, readable}
+use Rattle.layout.proofs.DemandLaws.{Readable, readable}
 use Rattle.trips.proofs.ShapeTrips.{sound-read, message-read}
 use Rattle.trips.proofs.WidthLaws.{shapeWidest, shape-width}
 use Rattle.quantities.proofs.UnusedLaws.{by-use, no-number}

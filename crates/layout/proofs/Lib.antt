@@ -7,3 +7,4 @@ pub mod MessageLaws
 pub mod VelocityMessageLaws
 pub mod WriteLaws
 pub mod TypeLaws
+pub mod DemandLaws

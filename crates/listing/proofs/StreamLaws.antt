@@ -1,4 +1,4 @@
--- The listing of an input is the texts of the calls in a row, whatever the pieces and the buffers; and calls that go on come to the end. Assumes nothing.
+-- What a call lists, and what it leaves to list; a call that takes nothing waits for more.
 use Prim.Native.Nat.{ℕ, zero, suc, _+_, _≤_, _<_}
 use mathlib.Core.Path.{_≡_, refl, sym, ap, _∙_, subst}
 use mathlib.Core.Bool.{Bool, true, false, cond}
@@ -16,8 +16,8 @@ use Rattle.frames.specs.declared.Frame.{Frame}
 use Rattle.frames.specs.declared.Frame.the-variants.{Whole, Broken, More, End}
 use Rattle.frames.proofs.FrameLaws.{frame-there, frame-stays, frame-waits}
 use Rattle.steps.specs.Steps.{textOf, longestStep}
-use Rattle.listing.specs.Listing.{onWhole, listIn, listing}
-use Rattle.listing.specs.Streaming.{listFrom, Found, found, onFrame, endsRun, someIn, someOf, Lists, Runs, over, turn}
+use Rattle.listing.specs.Listing.{onWhole, listIn}
+use Rattle.listing.specs.Streaming.{listFrom, Found, found, onFrame, endsRun, someIn, someOf, Lists}
 use Rattle.listing.specs.declared.Listed.{Listed}
 
 -- ---- a frame, and then the rest
@@ -115,26 +115,6 @@ module _ (size : ℕ) (last : Bool) (s later : List ℕ) (l : last ≡ true → 
   unfolding someOf
   some-lists n = some-sound (suc (length s)) n 0 []
 
--- ---- a run
-
--- ALL CALLS: whatever the pieces and the buffers, the text of a run is the listing of what was held and what came
-pub run-lists : {n : ℕ} {held input t : List ℕ} → Runs n held input t → t ≡ listFrom n (held ++ input)
-run-lists {n} {held} (over size last piece later l e) =
-    sym (rw (← append-assoc) (some-lists size last (held ++ piece) later l n ∙ rw (e, append-nil)))
-run-lists {n} {held} (turn size last piece later {t} l e r) =
-    sym (rw (← append-assoc) (some-lists size last (held ++ piece) later l n ∙ rw (e, ← run-lists r)))
-
-pub run-is-listing : {input t : List ℕ} → Runs 0 [] input t → t ≡ listing input
-unfolding listing listFrom
-run-is-listing r = run-lists r
-
--- a piece may come before the turn that lists it
-pub read-first : {n : ℕ} {held later t : List ℕ} (piece : List ℕ) → Runs n (held ++ piece) later t → Runs n held (piece ++ later) t
-read-first {n} {held} piece (over size last p later l e) =
-    rw (append-assoc held piece p, ← append-assoc piece p later) (over size last (piece ++ p) later l (rw append-assoc at e))
-read-first {n} {held} piece (turn size last p later l e r) =
-    rw (append-assoc held piece p, ← append-assoc piece p later) (turn size last (piece ++ p) later l (rw append-assoc at e) (rw append-assoc at r))
-
 -- ---- one answer and one content
 
 pub lists-one : {last : Bool} {n : ℕ} {s x y z : List ℕ} {r q : Listed} → Lists last n s x y r → Lists last n s x z q → (r ≡ q) × (y ≡ z)
@@ -228,26 +208,3 @@ stuck size last s n room none on-going =
     by Broken e go t h a b = absurd (let z : _≡_ {A = Bool} true false = b in let y : _≡_ {A = ℕ} 0 1 = cc in omega arith)
     by More e go t h a b = frame-waits last s e
     by End e go t h a b = absurd (let z : _≡_ {A = Bool} true false = b in let y : _≡_ {A = ℕ} 0 1 = cc in omega arith)
-
--- THE END: whoever holds all that is left of the input, and goes on calling with room for a step, comes to the end of the run
-pub record Ends (n : ℕ) (s : List ℕ) : Type 0 where
-  pub text : List ℕ
-  pub run : Runs n s [] text
-
-ends-in : (size most n : ℕ) (s : List ℕ) → longestStep ≤ size → length s < most → Ends n s
-ends-in size zero n s room h = absurd (omega arith)
-ends-in size (suc most) n s room h = by (someOf size true (s ++ []) n .ended) refl (λ k t l. ends-in size most k t room l)
-  where
-    fewer : (t : ℕ) → someOf size true (s ++ []) n .taken ≡ t → someOf size true (s ++ []) n .ended ≡ false → length (drop t (s ++ [])) < most
-    fewer zero q e = absurd (let z : _≡_ {A = Bool} true false = stuck size true (s ++ []) n room q e .0 in let y : _≡_ {A = ℕ} 0 1 = cc in omega arith)
-    fewer (suc t) q e = omega (arith, length-drop (suc t) (s ++ []), length-append s [], taken-inside size true (s ++ []) n)
-
-    by : (e : Bool) → someOf size true (s ++ []) n .ended ≡ e → ((k : ℕ) (t : List ℕ) → length t < most → Ends k t) → Ends n s
-    by true e later = record { text = someOf size true (s ++ []) n .text; run = over size true [] [] (λ _. refl) e }
-    by false e later =
-        let r : Found = someOf size true (s ++ []) n in
-        let next = later (r .unbroken) (drop (r .taken) (s ++ [])) (fewer (r .taken) refl e) in
-        record { text = r .text ++ next .text; run = turn size true [] [] (λ _. refl) e (next .run) }
-
-pub run-ends : (size n : ℕ) (s : List ℕ) → longestStep ≤ size → Ends n s
-run-ends size n s room = ends-in size (suc (length s)) n s room (omega arith)

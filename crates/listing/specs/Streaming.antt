@@ -1,4 +1,4 @@
--- THE LISTING IN PIECES: what one call of list_some lists, and runs of calls over any cut of the input. Assumes nothing.
+-- THE LISTING IN PIECES: what one call of list_some lists.
 use Prim.Native.Nat.{ℕ, zero, suc, _+_, _≤_}
 use mathlib.Core.Bool.{Bool, true, false, cond}
 use mathlib.Core.Path.{_≡_}
@@ -64,15 +64,3 @@ pub record Lists (last : Bool) (n : ℕ) (s before after : List ℕ) (r : Listed
   pub inside : r .taken ≤ length s
   pub room : r .written ≤ length before
   pub count : r .unbroken ≤ n + r .taken
-
--- A RUN in pieces: after n unbroken frames, with some octets held and others to come, a text is handed out.
--- Each turn gets a piece of what is to come (it may be empty), calls list_some with a buffer of any size on what it holds, and keeps what that left.
--- It says that it has the last piece only where nothing comes later.
-pub data Runs : ℕ → List ℕ → List ℕ → List ℕ → Type 0 where
-  over : {n : ℕ} {held : List ℕ} (size : ℕ) (last : Bool) (piece later : List ℕ) → (last ≡ true → later ≡ [])
-      → someOf size last (held ++ piece) n .ended ≡ true
-      → Runs n held (piece ++ later) (someOf size last (held ++ piece) n .text)
-  turn : {n : ℕ} {held : List ℕ} (size : ℕ) (last : Bool) (piece later : List ℕ) {t : List ℕ} → (last ≡ true → later ≡ [])
-      → someOf size last (held ++ piece) n .ended ≡ false
-      → Runs (someOf size last (held ++ piece) n .unbroken) (drop (someOf size last (held ++ piece) n .taken) (held ++ piece)) later t
-      → Runs n held (piece ++ later) (someOf size last (held ++ piece) n .text ++ t)

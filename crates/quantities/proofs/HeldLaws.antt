@@ -18,7 +18,7 @@ use Rattle.layout.specs.Rows.{widthOf, lengthOf}
 use Rattle.layout.specs.Demands.{Used, InFields, WriteAnswer}
 use Rattle.layout.specs.Shapes.{rowsOf, valueOf}
 use Rattle.layout.specs.Velocities.{velocityValueOf}
-use Rattle.trips.proofs.DemandLaws.{Sound, sound}
+use Rattle.layout.proofs.DemandLaws.{Sound, sound}
 use Rattle.trips.proofs.WidthLaws.{shapeWidest, velocityWidest, code-of, velocity-code-of}
 use Rattle.quantities.specs.Places.{
   Place,

@@ -11,7 +11,7 @@ use Rattle.layout.specs.Layout.{Row, shapeRows}
 use Rattle.layout.specs.Rows.{lengthOf, message, spareZero}
 use Rattle.layout.specs.Shapes.{rowsIn, shapeIn, rowsOf, valueOf}
 use Rattle.layout.proofs.TidyLaws.{message-length, message-octets}
-use Rattle.trips.proofs.DemandLaws.{Readable, readable, read-done}
+use Rattle.layout.proofs.DemandLaws.{Readable, readable, read-done}
 use Rattle.trips.proofs.ShapeTrips.{message-read, rows-read, readable-message, record-message}
 use Rattle.requests.specs.declared.Request.{Request}
 use Rattle.requests.specs.declared.codes.Wanted.{Wanted}

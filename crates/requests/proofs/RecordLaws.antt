@@ -51,7 +51,7 @@ use Rattle.layout.specs.Shapes.{rowsOf, valueOf, latitudeOf, longitudeOf}
 use Rattle.layout.proofs.FieldLaws.{tag-one}
 use Rattle.layout.proofs.KindLaws.{type-small}
 use Rattle.layout.proofs.TidyLaws.{both}
-use Rattle.trips.proofs.DemandLaws.{Sound}
+use Rattle.layout.proofs.DemandLaws.{Sound}
 use Rattle.trips.proofs.ShapeRecords.{sign-back, length-upto, values-of, Fifteen}
 use Rattle.trips.proofs.WidthLaws.{shapeWidest}
 use Rattle.requests.specs.declared.codes.Wanted.{Wanted}

@@ -20,7 +20,7 @@ use Rattle.layout.specs.Rows.{lengthOf, spareZero}
 use Rattle.layout.specs.Demands.{Used}
 use Rattle.layout.specs.Shapes.{rowsIn, rowsOf, valueOf, zeroLatitude, zeroLongitude, blankShape, ReadsShape, WritesShape}
 use Rattle.layout.proofs.KindLaws.{fixed-width}
-use Rattle.trips.proofs.DemandLaws.{Sound, sound}
+use Rattle.layout.proofs.DemandLaws.{Sound, sound}
 use Rattle.trips.proofs.OneAnswer.{write-answer-one}
 use Rattle.trips.proofs.ShapeRecords.{Fifteen}
 use Rattle.trips.proofs.ShapeTrips.{shape-taken, shape-accepted, shape-whole, shape-again}

@@ -17,7 +17,7 @@ use Rattle.layout.specs.Layout as layout
 use Rattle.layout.specs.Rows.{lengthOf, spareZero}
 use Rattle.layout.specs.Demands.{Used}
 use Rattle.layout.specs.Velocities.{velocityRowsIn, velocityValueOf, blankVelocity, ReadsVelocity, WritesVelocity}
-use Rattle.trips.proofs.DemandLaws.{Sound, sound}
+use Rattle.layout.proofs.DemandLaws.{Sound, sound}
 use Rattle.trips.proofs.OneAnswer.{write-answer-one}
 use Rattle.trips.proofs.WidthLaws.{velocity-width}
 use Rattle.trips.proofs.VelocityTrips.{velocity-taken, velocity-accepted, velocity-again}

@@ -5,7 +5,8 @@ use mathlib.Core.Bool.{Bool, true, false}
 use mathlib.Core.List.{List, [], _∷_, _++_, append-nil, append-assoc}
 use native.Mathlib.Omega.{arith}
 use lib.Dec.{T}
-use lib.ListN.{length, take, drop, length-append}
+use lib.ListN.{length, drop, length-append}
+use lib.Seq.{drop-append-seam}
 use Rattle.printing.specs.Printing.{endText}
 use Rattle.streaming.specs.declared.input.Input.{Input}
 use Rattle.streaming.specs.declared.output.Output.{Output}
@@ -215,3 +216,18 @@ module _ {Answer : ℕ → List ℕ → List ℕ → Type 0} where
     -- IT WRITES ALL: the answers and the last line
     pub writes-all : ran .put .written ≡ ran .text ++ endText (length (ran .lines))
     writes-all = sym (ran .put .parts ∙ ap (λ (l : List ℕ). ran .put .written ++ l) (ran .put .kept is-open ∙ rw (ran .all is-open)) ∙ append-nil (ran .put .written))
+
+  -- ONE TEXT: two runs that read the same octets, however they were cut, have written the same
+  module _ (one : (n : ℕ) (line t u : List ℕ) → Answer n line t → Answer n line u → t ≡ u) {first : List (List ℕ)} {start start′ block block′ out out′ : List ℕ} {r r′ : Run}
+      (a : Ran Answer first start block out r) (b : Ran Answer first start′ block′ out′ r′) (same : a .asked .read ≡ b .asked .read) (few : length (a .asked .read) < mostOctets)
+      (a-open : r .output .sink .closed ≡ false) (b-open : r′ .output .sink .closed ≡ false) where
+    lines-one : a .lines ≡ b .lines
+    lines-one =
+        let e = sym (answers-all a few a-open) ∙ ap linesOf same ∙ answers-all b (rw same at few) b-open in
+        sym (drop-append-seam first (a .lines)) ∙ ap (drop (length first)) e ∙ drop-append-seam first (b .lines)
+
+    text-one : a .text ≡ b .text
+    text-one = answers-one one (a .answers) (subst (λ (l : List (List ℕ)). Answers Answer 0 l (b .text)) (sym lines-one) (b .answers))
+
+    pub ran-one : a .put .written ≡ b .put .written
+    ran-one = writes-all a few a-open ∙ rw (text-one, lines-one) (sym (writes-all b (rw same at few) b-open))

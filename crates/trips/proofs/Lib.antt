@@ -1,4 +1,3 @@
-pub mod DemandLaws
 pub mod OneAnswer
 pub mod Trips
 pub mod WidthLaws

@@ -20,7 +20,7 @@ use Rattle.layout.specs.Demands.{Listed, WriteAnswer}
 use Rattle.layout.specs.Shapes.{kindOf, kindIn, rowsIn, shapeIn, latitudeOf, longitudeOf, shapeOf, blankShape, valueOf, rowsOf, ReadsShape, WritesShape}
 use Rattle.layout.proofs.TidyLaws.{read-bits, read-in-fields, read-message}
 use Rattle.layout.proofs.KindLaws.{pointsOf, no-point-width, shape-tidy}
-use Rattle.trips.proofs.DemandLaws.{Readable, Sound}
+use Rattle.layout.proofs.DemandLaws.{Readable, Sound}
 use Rattle.trips.proofs.WidthLaws.{code-of}
 use Rattle.trips.proofs.ShapeRecords.{Fifteen, length-upto, values-of, shape-of-values}
 use Rattle.trips.proofs.Trips.{Coder, Read, sound-in, message-in, readable-sent, record-sent, taken, accepted, again, same-but-spare, back}

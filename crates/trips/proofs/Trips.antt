@@ -15,7 +15,7 @@ use Rattle.layout.specs.Layout.{Field, Row}
 use Rattle.layout.specs.Rows.{read, lengthOf, message, spareZero}
 use Rattle.layout.specs.Demands.{CountSound, AnglesSound, ConfidenceSound, ReadAnswer, WriteAnswer, Writes}
 use Rattle.layout.proofs.TidyLaws.{Tidy, read-in-fields, read-message, written-again, message-length}
-use Rattle.trips.proofs.DemandLaws.{Readable, Sound, readable, read-done, sound, write-done}
+use Rattle.layout.proofs.DemandLaws.{Readable, Sound, readable, read-done, sound, write-done}
 use Rattle.trips.proofs.OneAnswer.{read-answer-one, write-answer-one}
 
 -- records of one sort, their rows and numbers, and what is known of them

@@ -45,7 +45,7 @@ use Rattle.layout.specs.Demands.{Listed, WriteAnswer}
 use Rattle.layout.specs.Velocities.{velocityKindOf, velocityKindIn, velocityRowsIn, velocityIn, velocityOf, blankVelocity, velocityValueOf, ReadsVelocity, WritesVelocity}
 use Rattle.layout.proofs.TidyLaws.{read-in-fields, read-message}
 use Rattle.layout.proofs.KindLaws.{velocity-tidy}
-use Rattle.trips.proofs.DemandLaws.{Readable, Sound}
+use Rattle.layout.proofs.DemandLaws.{Readable, Sound}
 use Rattle.trips.proofs.WidthLaws.{velocityWidest, velocity-code-of}
 use Rattle.trips.proofs.ShapeRecords.{sign-back, bit-back}
 use Rattle.trips.proofs.Trips.{Coder, Read, taken, accepted, again, same-but-spare, back}

@@ -1,4 +1,4 @@
--- `quantities::byte` meets its contract: there is a cell, and it holds the code. Assumes nothing.
+-- `quantity::byte` meets its contract: there is a cell, and it holds the code. Assumes nothing.
 use native.Mathlib.Omega.{arith}
 use Rattle.field_cells.proofs.FieldLaws.{byte-short, byte-told}
 use borrow.Author.Needs.{needs}

@@ -1,4 +1,4 @@
--- `quantities::longitude` meets its contract: there is a cell, and it holds the code's bits. Assumes nothing.
+-- `quantity::longitude` meets its contract: there is a cell, and it holds the code's bits. Assumes nothing.
 use mathlib.Core.Path.{refl}
 use native.Mathlib.Omega.{arith}
 use Rattle.field_cells.specs.Fields.{too-short, reported}

@@ -1,4 +1,4 @@
--- `quantities::put_one` meets its contract: the one cell is the first. Assumes nothing.
+-- `quantity::put_one` meets its contract: the one cell is the first. Assumes nothing.
 use mathlib.Core.Path.{refl}
 use native.Mathlib.Omega.{arith}
 use mir.Syntax.{w64}

@@ -1,4 +1,4 @@
--- `quantities::put_quantity` meets its contract: by what is told, no cell or one. Assumes nothing.
+-- `quantity::put_quantity` meets its contract: by what is told, no cell or one. Assumes nothing.
 use mathlib.Core.Path.{refl}
 use native.Mathlib.Omega.{arith}
 use mathlib.Core.Path.{subst⁻¹}

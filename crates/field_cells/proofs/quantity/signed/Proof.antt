@@ -1,4 +1,4 @@
--- `quantities::signed` meets its contract: there are two cells, and the first is a bit. Assumes nothing.
+-- `quantity::signed` meets its contract: there are two cells, and the first is a bit. Assumes nothing.
 use native.Mathlib.Omega.{arith}
 use Rattle.field_cells.proofs.FieldLaws.{signed-short, no-sign, signed-told}
 use borrow.Author.Needs.{needs}

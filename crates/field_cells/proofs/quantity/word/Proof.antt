@@ -1,4 +1,4 @@
--- `quantities::word` meets its contract: there is a cell, and it holds the code. Assumes nothing.
+-- `quantity::word` meets its contract: there is a cell, and it holds the code. Assumes nothing.
 use native.Mathlib.Omega.{arith}
 use Rattle.field_cells.proofs.FieldLaws.{word-short, word-told}
 use borrow.Author.Needs.{needs}

@@ -1,4 +1,4 @@
--- `quantities::byte` meets its contract: a number, one below zero, or none. Assumes nothing.
+-- `quantity::byte` meets its contract: a number, one below zero, or none. Assumes nothing.
 use Rattle.field_texts.specs.Texts.{byteField}
 use Rattle.field_texts.proofs.ReportLaws.{size-code, size-below, size-nothing, byte-plain, below-reported, nothing-reported, byte-reported}
 use borrow.Author.Needs.{needs}

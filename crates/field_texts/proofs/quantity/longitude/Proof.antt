@@ -1,4 +1,4 @@
--- `quantities::longitude` meets its contract: a number of 32 bits, one outside them, or none. Assumes nothing.
+-- `quantity::longitude` meets its contract: a number of 32 bits, one outside them, or none. Assumes nothing.
 use mathlib.Core.Path.{refl, sym, _∙_}
 use mir.Syntax.{w32}
 use mir.Facts.{toZ-ofZ}

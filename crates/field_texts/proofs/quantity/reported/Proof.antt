@@ -1,4 +1,4 @@
--- `quantities::reported` meets its contract: each place is a field's, from 14 on none. Assumes nothing.
+-- `quantity::reported` meets its contract: each place is a field's, from 14 on none. Assumes nothing.
 use mathlib.Core.Path.{refl, sym}
 use Rattle.fields.specs.Fields.{latitude, longitude, uncertainty, altitudeUncertainty, altitude, innerRadius, offset, included, orientation, bearing, horizontalSpeed, verticalSpeed, uncertaintySpeed, confidence}
 use Rattle.field_texts.specs.Texts.{of-field, no-field}

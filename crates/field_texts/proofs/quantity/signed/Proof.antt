@@ -1,4 +1,4 @@
--- `quantities::signed` meets its contract: one text, or a first one and what stands behind it. Assumes nothing.
+-- `quantity::signed` meets its contract: one text, or a first one and what stands behind it. Assumes nothing.
 use mathlib.Core.Path.{subst}
 use Prim.Native.Nat.{_+_, _-_}
 use native.Mathlib.Omega.{arith}

@@ -1,4 +1,4 @@
--- `quantities::with_bit` meets its contract: the sign is above 1, or it is a bit. Assumes nothing.
+-- `quantity::with_bit` meets its contract: the sign is above 1, or it is a bit. Assumes nothing.
 use native.Mathlib.Omega.{arith}
 use Rattle.field_texts.proofs.ReportLaws.{no-sign, signed-reported}
 use borrow.Author.Needs.{needs}

@@ -1,4 +1,4 @@
--- `quantities::with_sign` meets its contract: by the sorts of the two. Assumes nothing.
+-- `quantity::with_sign` meets its contract: by the sorts of the two. Assumes nothing.
 use mathlib.Core.Path.{refl}
 use Rattle.field_texts.proofs.ReportLaws.{size-code, size-below, size-nothing, first-nothing, rest-nothing, first-below, rest-below}
 use borrow.Author.Needs.{needs}

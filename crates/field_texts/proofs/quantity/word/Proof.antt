@@ -1,4 +1,4 @@
--- `quantities::word` meets its contract: a number, one below zero, or none. Assumes nothing.
+-- `quantity::word` meets its contract: a number, one below zero, or none. Assumes nothing.
 use Rattle.field_texts.specs.Texts.{wordField}
 use Rattle.field_texts.proofs.ReportLaws.{size-code, size-below, size-nothing, word-plain, below-reported, nothing-reported, word-reported}
 use borrow.Author.Needs.{needs}
