@@ -2,7 +2,7 @@
  * Iachromel: Geographical Area Descriptions (3GPP TS 23.032), octets to quantities and back, in whole numbers.
  *
  * Link with libdesk.a (`rt staticlib desk`). Every function is proved to answer every call; what each of them says of the numbers in its
- * arrays is written in crates/desk/specs/Promises.antt.
+ * arrays is written in crates/library/specs/Promises.antt.
  *
  * ARRAYS. Each array is a pointer and, next to it, the number of its cells (octets for messages). A null pointer with length 0 is an
  * empty array.

@@ -1,1 +1,1 @@
-pub mod DeskLaws
+pub mod Border

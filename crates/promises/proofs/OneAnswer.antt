@@ -38,7 +38,7 @@ use Rattle.quantity_cells.specs.Velocities.{velocityQuantityCells, velocityQuan
 use Rattle.field_cells.specs.Fields.{toldOutcome}
 use Rattle.field_cells.specs.Fields as single
 use Rattle.cell_records.specs.Records.{CodeCellsAnswer}
-use Rattle.desk.specs.Promises.{ReadsShapeInto, ReadsVelocityInto, WritesTold, WritesShapeFrom, WritesVelocityFrom, ReportsShapeFrom, ReportsVelocityFrom, CodesShapeFrom, CodesVelocityFrom, ChoosesIn, no-request, chosen, ChoosesFrom, CodesOne, ReportsOne}
+use Rattle.library.specs.Promises.{ReadsShapeInto, ReadsVelocityInto, WritesTold, WritesShapeFrom, WritesVelocityFrom, ReportsShapeFrom, ReportsVelocityFrom, CodesShapeFrom, CodesVelocityFrom, ChoosesIn, no-request, chosen, ChoosesFrom, CodesOne, ReportsOne}
 use Rattle.promises.proofs.OneRequest.{request-one}
 use Rattle.promises.proofs.OneField.{codes-field-one, reports-field-one}
 

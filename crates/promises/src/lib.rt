@@ -1,1 +1,1 @@
-// No code: the laws over the promises of the desk's calls. proofs/Lib.antt lists them.
+// No code: the laws over the promises of the library's calls. proofs/Lib.antt lists them.
