@@ -1,4 +1,4 @@
--- Offset, included angle, orientation and bearing, in millidegrees. Assumes nothing.
+-- Offset, included angle, orientation and bearing, in millidegrees.
 use Prim.Native.Nat.{ℕ, _≤_}
 use Rattle.ground.specs.Answers.{numberOf, Said, done, refused, Answer}
 use Rattle.ground.specs.Sets.{LeastOf, GreatestOf, Outside}

@@ -1,4 +1,4 @@
--- A kind that is looked for on the list alone. Assumes nothing.
+-- A kind that is looked for on the list alone.
 use mathlib.Core.Path.{_≡_, sym, subst}
 use Rattle.layout.specs.declared.shape.Kind.{Kind}
 use Rattle.requests.specs.declared.codes.Wanted.{Wanted}

@@ -1,4 +1,4 @@
--- Which kind is found. Assumes nothing.
+-- Which kind is found.
 use mathlib.Core.Path.{_≡_}
 use Rattle.layout.specs.declared.shape.Kind.{Kind}
 use Rattle.requests.specs.declared.codes.Wanted.{Wanted}

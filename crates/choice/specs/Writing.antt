@@ -1,4 +1,4 @@
--- What is written for the codes of a request. Assumes nothing.
+-- What is written for the codes of a request.
 use mathlib.Core.Path.{_≡_}
 use mathlib.Core.List.{List, _++_}
 use Prim.Native.Nat.{ℕ, _≤_, _<_}
@@ -20,6 +20,6 @@ pub data WritesBest (w : Wanted) (taken : Kind → Type 0) (before : List ℕ) :
       → WritesBest w taken before 0 (lengthOf (shapeRows k 0)) (messageOf k w ++ drop (lengthOf (shapeRows k 0)) before)
 
 -- a refusal writes no octets
-pub record RefusedWith (why : Refusal) (r : Written) : Type 0 where
+pub record WritingRefused (why : Refusal) (r : Written) : Type 0 where
   pub outcome : r .outcome ≡ Refused why
   pub length : r .length ≡ 0

@@ -2,26 +2,27 @@
 // kind is best is read off them, and its message is stored.
 mod kind;
 mod message;
+mod request_codes;
 
 use ground::Outcome;
 use ground::Refusal;
 use kind::KindFound;
 use layout::Written;
+use request_codes::RequestCoded;
 use requests::Request;
 use requests::Wanted;
-use wanted::RequestCoded;
 ghost use mathlib.Core.Path.{_≡_};
 ghost use Rattle.ground.specs.Answers.{outcomeNumber};
 ghost use Rattle.ground.specs.declared.refusals.Outcome.the-variants.{Refused};
 ghost use Rattle.requests.specs.Choice.{Listed, Chooses};
 ghost use Rattle.requests.specs.Codes.{Tame};
-ghost use Rattle.choice.specs.Writing.{WritesBest, RefusedWith};
+ghost use Rattle.choice.specs.Writing.{WritesBest, WritingRefused};
 
 // Writes the best message for a request, of the kinds on the receiver's list, or refuses it and leaves the buffer as it is.
 pub fn choose(out: &mut [u8], request: Request, list: u16) -> Written
     ensures { λ r. ⌜ Chooses request (Listed list) (now (out .entry)) (now (out .exit)) r ⌝ }
 {
-    match wanted::request_codes(request) {
+    match request_codes::request_codes(request) {
         RequestCoded::Codes(codes) => write_best(out, codes, list),
         RequestCoded::Refused(why) => refused(why),
     }
@@ -48,7 +49,7 @@ fn write_best(out: &mut [u8], codes: Wanted, list: u16) -> Written
 
 // A refusal writes nothing.
 fn refused(why: Refusal) -> Written
-    ensures { λ r. ⌜ RefusedWith why r ⌝ }
+    ensures { λ r. ⌜ WritingRefused why r ⌝ }
 {
     Written {
         outcome: Outcome::Refused(why),

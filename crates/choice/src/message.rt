@@ -9,7 +9,7 @@ ghost use lib.Seq.{sets};
 ghost use Rattle.layout.specs.Layout.{shapeRows};
 ghost use Rattle.layout.specs.Rows.{lengthOf};
 ghost use Rattle.requests.specs.Choice.{TakesPart};
-ghost use Rattle.requests.specs.Codes.{Tame, messageOf, recordOf};
+ghost use Rattle.requests.specs.Codes.{Tame, messageOf, wantedRecord};
 ghost use Rattle.composing.specs.Composing.{rest};
 
 // Stores the message.
@@ -22,7 +22,7 @@ pub fn put(out: &mut [u8], kind: Kind, wanted: Wanted)
     let latitude = wanted.latitude;
     let longitude = wanted.longitude;
     out[0] = layout::first_octet(kind);
-    storing::put_position(out, 1, latitude, longitude);
+    octets::put_position(out, 1, latitude, longitude);
     put_rest(out, kind, wanted);
 }
 
@@ -31,7 +31,7 @@ fn put_rest(out: &mut [u8], kind: Kind, wanted: Wanted)
     requires { ⌜ TakesPart kind ⌝ }
     requires { ⌜ Tame wanted ⌝ }
     requires { ⌜ lengthOf (shapeRows kind 0) ≤ length (now out) ⌝ }
-    ensures { λ _. ⌜ now (out .exit) ≡ sets (now (out .entry)) 7 (rest kind (recordOf kind wanted)) ⌝ }
+    ensures { λ _. ⌜ now (out .exit) ≡ sets (now (out .entry)) 7 (rest kind (wantedRecord kind wanted)) ⌝ }
 {
     let altitude = wanted.altitude.code;
     let major = wanted.area.semi_major.0;
@@ -43,12 +43,12 @@ fn put_rest(out: &mut [u8], kind: Kind, wanted: Wanted)
         Kind::Nothing => {}
         Kind::Point => {}
         Kind::Circle => out[7] = major,
-        Kind::Ellipse => storing::put_four(out, 7, major, minor, orientation, confidence),
+        Kind::Ellipse => octets::put_four(out, 7, major, minor, orientation, confidence),
         Kind::Polygon => {}
-        Kind::AltitudePoint => storing::put_altitude(out, 7, altitude),
+        Kind::AltitudePoint => octets::put_altitude(out, 7, altitude),
         Kind::AltitudeEllipsoid => {
-            storing::put_altitude(out, 7, altitude);
-            storing::put_four(out, 9, major, minor, orientation, altitude_uncertainty);
+            octets::put_altitude(out, 7, altitude);
+            octets::put_four(out, 9, major, minor, orientation, altitude_uncertainty);
             out[13] = confidence;
         }
         Kind::Arc => {}

@@ -6,11 +6,11 @@ use lib.ListN.{length, take, replicate}
 use Rattle.layout.specs.declared.Written.{Written}
 use Rattle.requests.specs.declared.Request.{Request}
 use Rattle.requests.specs.Choice.{Chooses, Listed}
-use Rattle.asking.specs.Asking.{Asks, ListIn}
-use Rattle.asking.specs.Answers.{answerText}
-use Rattle.asking.specs.declared.request_lines.Asked.{Asked}
-use Rattle.asking.specs.declared.request_lines.Asked.the-variants as asked
-use Rattle.asking.specs.declared.answers.Answer.the-variants.{Unreadable, Chosen}
+use Rattle.request_lines.specs.Asking.{Asks, ListIn}
+use Rattle.request_lines.specs.Answers.{choiceText}
+use Rattle.request_lines.specs.declared.request.Asked.{Asked}
+use Rattle.request_lines.specs.declared.request.Asked.the-variants as asked
+use Rattle.request_lines.specs.declared.answers.Answer.the-variants.{Unreadable, Chosen}
 use Rattle.text.specs.Text.{PutsWithin}
 use Rattle.streaming.specs.Answering.{Taken, Stopped, Ran}
 use Rattle.streaming.specs.Inputs.{longestLine}
@@ -18,7 +18,7 @@ use Rattle.streaming.specs.declared.input.Input.{Input}
 use Rattle.streaming.specs.declared.output.Run.{Run}
 
 -- the receiver's list in a line; one that is too long to be kept is the empty list
-pub record Lists (line : List ℕ) (list : ℕ) : Type 0 where
+pub record SaysList (line : List ℕ) (list : ℕ) : Type 0 where
   pub says : length line ≤ longestLine → ListIn line list
   pub too-long : longestLine < length line → list ≡ 0
 
@@ -29,11 +29,11 @@ pub record LineAsks (line : List ℕ) (r : Asked) : Type 0 where
 
 -- the n-th answer, as text: what the choice answers for the request, into 14 octets
 pub data AnswerTo (list n : ℕ) : Asked → List ℕ → Type 0 where
-  unreadable : AnswerTo list n asked.Unreadable (answerText n Unreadable [])
+  unreadable : AnswerTo list n asked.Unreadable (choiceText n Unreadable [])
   chosen : {q : Request} {after : List ℕ} (w : Written) → Chooses q (Listed list) (replicate 14 0) after w
-      → AnswerTo list n (asked.Request q) (answerText n (Chosen (w .outcome)) (take (w .length) after))
+      → AnswerTo list n (asked.Request q) (choiceText n (Chosen (w .outcome)) (take (w .length) after))
 
-pub record LineAnswer (list n : ℕ) (line text : List ℕ) : Type 0 where
+pub record ChooserAnswer (list n : ℕ) (line text : List ℕ) : Type 0 where
   pub asked : Asked
   pub asks : LineAsks line asked
   pub is : AnswerTo list n asked text
@@ -41,13 +41,13 @@ pub record LineAnswer (list n : ℕ) (line text : List ℕ) : Type 0 where
 -- the first line is the list; where there is none, no line is answered
 pub data Heads (list : ℕ) : List (List ℕ) → ℕ → Type 0 where
   nothing : Heads list [] 0
-  listed : {line : List ℕ} {answered : ℕ} → Lists line list → Heads list (line ∷ []) answered
+  listed : {line : List ℕ} {answered : ℕ} → SaysList line list → Heads list (line ∷ []) answered
 
 -- WHAT THE PROGRAM DOES: it takes the list from the first line, and answers every other
 pub record ChoosesAll (start block out : List ℕ) (r : Run) : Type 0 where
   pub list : ℕ
   pub first : List (List ℕ)
-  pub ran : Ran (LineAnswer list) first start block out r
+  pub ran : Ran (ChooserAnswer list) first start block out r
   pub heads : Heads list first (r .output .answered)
 
 -- ---- the parts
@@ -61,11 +61,11 @@ pub record PutsChosen (list n : ℕ) (asked : Asked) (before : List ℕ) (at : �
 
 -- the lines behind those that were taken are answered
 abbrev pub AnswersRest : ℕ → Input → List ℕ → List ℕ → List ℕ → Run → Type 0
-AnswersRest list i before block out r = (first : List (List ℕ)) (start : List ℕ) → Taken first start before i → Stopped (LineAnswer list) first start block out r
+AnswersRest list i before block out r = (first : List (List ℕ)) (start : List ℕ) → Taken first start before i → Stopped (ChooserAnswer list) first start block out r
 
 -- where it stands when it stops
 pub record StoppedChoosing (start block out : List ℕ) (r : Run) : Type 0 where
   pub list : ℕ
   pub first : List (List ℕ)
-  pub stopped : Stopped (LineAnswer list) first start block out r
+  pub stopped : Stopped (ChooserAnswer list) first start block out r
   pub heads : Heads list first (r .output .answered)

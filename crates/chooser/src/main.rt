@@ -1,8 +1,8 @@
 // Chooses the shape for one point. The first line of standard input is the receiver's list, each further line a request, which is
 // answered by a line of standard output: its number, document 01's answer, and on 0 the octets of the message. A last line says
 // how many requests there were.
-use asking::Answer;
-use asking::Asked;
+use request_lines::Answer;
+use request_lines::Asked;
 use streaming::Input;
 use streaming::Output;
 use streaming::Run;
@@ -14,7 +14,7 @@ ghost use lib.ListN.{length};
 ghost use Rattle.streaming.specs.Inputs.{SoundInput, Line, mostOctets};
 ghost use Rattle.streaming.specs.Outputs.{SoundOutput};
 ghost use Rattle.streaming.specs.Answering.{AnswerPut};
-ghost use Rattle.chooser.specs.Choosing.{Lists, LineAsks, LineAnswer, ChoosesAll, AnswersRest, StoppedChoosing, PutsChosen};
+ghost use Rattle.chooser.specs.Choosing.{SaysList, LineAsks, ChooserAnswer, ChoosesAll, AnswersRest, StoppedChoosing, PutsChosen};
 
 // No answer takes more octets.
 const LONGEST_ANSWER: usize = 65;
@@ -86,7 +86,7 @@ fn answer_line(
     requires { ⌜ SoundOutput before ⌝ }
     requires { ⌜ before .sink .closed ≡ false ⌝ }
     requires { ⌜ before .answered < mostOctets ⌝ }
-    ensures { λ r. ⌜ AnswerPut (LineAnswer list) (now (block .entry)) (now (out .entry)) (now (out .exit)) input before r ⌝ }
+    ensures { λ r. ⌜ AnswerPut (ChooserAnswer list) (now (block .entry)) (now (out .entry)) (now (out .exit)) input before r ⌝ }
 {
     let mut output = streaming::make_room(out, before, LONGEST_ANSWER);
     output.answered += 1;
@@ -101,13 +101,13 @@ fn put_chosen(out: &mut [u8; 65536], at: usize, number: u64, asked: Asked, list:
     ensures { λ r. ⌜ PutsChosen list number asked (now (out .entry)) at (now (out .exit)) r ⌝ }
 {
     let Asked::Request(request) = asked else {
-        return asking::put_answer(out, at, number, Answer::Unreadable, b"");
+        return request_lines::put_answer(out, at, number, Answer::Unreadable, b"");
     };
     let mut message = [0; 14];
     let written = choice::choose(&mut message, request, list);
     let outcome = written.outcome;
     let length = written.length;
-    asking::put_answer(
+    request_lines::put_answer(
         out,
         at,
         number,
@@ -120,14 +120,14 @@ fn put_chosen(out: &mut [u8; 65536], at: usize, number: u64, asked: Asked, list:
 fn list_held(block: &[u8], input: Input) -> u16
     requires { ⌜ length (now block) ≡ 65536 ⌝ }
     requires { ⌜ SoundInput input ⌝ }
-    ensures { λ r. ⌜ ((line : List ℕ) → Line (now (block .entry)) input line → Lists line r) ⌝ }
+    ensures { λ r. ⌜ ((line : List ℕ) → Line (now (block .entry)) input line → SaysList line r) ⌝ }
 {
     if input.long {
         return 0;
     }
     let from = input.from;
     let end = input.end;
-    asking::list_in(&block[from..end])
+    request_lines::list_in(&block[from..end])
 }
 
 // The request in the line that is held.
@@ -141,5 +141,5 @@ fn request_held(block: &[u8], input: Input) -> Asked
     }
     let from = input.from;
     let end = input.end;
-    asking::request_in(&block[from..end])
+    request_lines::request_in(&block[from..end])
 }

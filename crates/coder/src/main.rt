@@ -1,9 +1,14 @@
-// Codes quantities, and reports codes: each line of standard input is answered by a line of standard output, its number,
+// CodesAll quantities, and reports codes: each line of standard input is answered by a line of standard output, its number,
 // the answer, and on 0 the code or the quantity. A last line says how many there were.
-use printing::Printed;
+mod code_text;
+mod lines;
+mod names;
+mod report_text;
+
 use streaming::Input;
 use streaming::Output;
 use streaming::Run;
+use text::Printed;
 ghost use mathlib.Core.Path.{_≡_};
 ghost use mathlib.Core.Bool.{false};
 ghost use mathlib.Core.List.{List, []};
@@ -12,7 +17,7 @@ ghost use lib.ListN.{length};
 ghost use Rattle.streaming.specs.Inputs.{SoundInput, Line, mostOctets};
 ghost use Rattle.streaming.specs.Outputs.{SoundOutput};
 ghost use Rattle.streaming.specs.Answering.{AnswerPut, Stopped};
-ghost use Rattle.coder.specs.Coding.{Prints, LineAnswer, Codes};
+ghost use Rattle.coder.specs.Coding.{Prints, CoderAnswer, CodesAll};
 
 // No answer takes more octets.
 const LONGEST_ANSWER: usize = 46;
@@ -28,7 +33,7 @@ fn main() {
 
 // Answers every line of the input, and says how many there were. Answers where it stands then.
 fn run(out: &mut [u8; 65536], block: &mut [u8; 65536]) -> Run
-    ensures { λ r. ⌜ Codes (now (block .entry)) (now (block .exit)) (now (out .exit)) r ⌝ }
+    ensures { λ r. ⌜ CodesAll (now (block .entry)) (now (block .exit)) (now (out .exit)) r ⌝ }
 {
     let answered = answer_lines(out, block);
     let input = answered.input;
@@ -38,7 +43,7 @@ fn run(out: &mut [u8; 65536], block: &mut [u8; 65536]) -> Run
 
 // Answers every line of the input. The end of the input ends it, and a closed output.
 fn answer_lines(out: &mut [u8; 65536], block: &mut [u8; 65536]) -> Run
-    ensures { λ r. ⌜ Stopped LineAnswer [] (now (block .entry)) (now (block .exit)) (now (out .exit)) r ⌝ }
+    ensures { λ r. ⌜ Stopped CoderAnswer [] (now (block .entry)) (now (block .exit)) (now (out .exit)) r ⌝ }
 {
     let mut input = streaming::no_input();
     let mut output = streaming::no_output();
@@ -61,11 +66,11 @@ fn answer_line(out: &mut [u8; 65536], block: &[u8; 65536], input: Input, before:
     requires { ⌜ SoundOutput before ⌝ }
     requires { ⌜ before .sink .closed ≡ false ⌝ }
     requires { ⌜ before .answered < mostOctets ⌝ }
-    ensures { λ r. ⌜ AnswerPut LineAnswer (now (block .entry)) (now (out .entry)) (now (out .exit)) input before r ⌝ }
+    ensures { λ r. ⌜ AnswerPut CoderAnswer (now (block .entry)) (now (out .entry)) (now (out .exit)) input before r ⌝ }
 {
     let mut output = streaming::make_room(out, before, LONGEST_ANSWER);
     output.answered += 1;
-    output.put = printing::put_line(out, output.put, output.answered, printed(block, input));
+    output.put = text::put_line(out, output.put, output.answered, printed(block, input));
     output
 }
 

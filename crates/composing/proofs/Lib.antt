@@ -1,3 +1,3 @@
-pub mod CellRecords
+pub mod ElementRecords
+pub mod ElementStores
 pub mod StoreLaws
-pub mod CellStores

@@ -1,4 +1,4 @@
--- A message stored part after part. Assumes nothing.
+-- A message stored part after part.
 use Prim.Native.Nat.{ℕ, zero, suc, _+_, _*_, _≤_, _<_}
 use mathlib.Core.Path.{_≡_, refl, sym, ap, subst, _∙_}
 use mathlib.Core.List.{List, _∷_, _++_}
@@ -14,7 +14,7 @@ use Rattle.layout.specs.declared.shape.Kind.{Kind}
 use Rattle.layout.specs.declared.shape.Kind.the-variants.{Nothing, Point, Circle, Ellipse, Polygon, AltitudePoint, AltitudeEllipsoid, Arc}
 use Rattle.layout.specs.declared.shape.Shape.{Shape}
 use Rattle.layout.specs.Layout.{
-  Field,
+  MessageField,
   count,
   south,
   latitude,
@@ -35,7 +35,7 @@ use Rattle.layout.specs.Layout.{
   typeOf,
 }
 use Rattle.layout.specs.Rows.{lengthOf, message}
-use Rattle.layout.specs.Demands.{Listed, InFields}
+use Rattle.layout.specs.Demands.{TypeKnown, InFields}
 use Rattle.layout.specs.Shapes.{rowsOf, valueOf, zeroLatitude, zeroLongitude}
 use Rattle.layout.proofs.TidyLaws.{message-length}
 use Rattle.layout.proofs.KindLaws.{type-small}
@@ -43,12 +43,12 @@ use Rattle.layout.proofs.PolygonLaws.{polygon-length}
 use Rattle.layout.proofs.MessageLaws.{Position, positionOctets, pointOctets, point-message, circle-message, ellipse-message, altitude-point-message, ellipsoid-message, arc-message, polygon-message}
 use Rattle.octets.specs.Codes.{position}
 use Rattle.limits.proofs.LimitLaws.{points-within}
-use Rattle.composing.specs.Composing.{positions, rest, Storable}
+use Rattle.composing.specs.Composing.{positions, rest, ShapeStorable}
 
 -- ---- runs of stores
 
 -- a run from the first octet on is a message before the other octets
-pub run-stored : (rows : List Row) (value : Field → ℕ) (o m : List ℕ) → message rows value ≡ m → lengthOf rows ≤ length o → sets o 0 m ≡ message rows value ++ drop (lengthOf rows) o
+pub run-stored : (rows : List Row) (value : MessageField → ℕ) (o m : List ℕ) → message rows value ≡ m → lengthOf rows ≤ length o → sets o 0 m ≡ message rows value ++ drop (lengthOf rows) o
 run-stored rows value o m e h =
     let l : length m ≡ lengthOf rows = ap length (sym e) ∙ message-length rows value in
     sets-eq m o 0 (omega arith) ∙ ap (λ (k : ℕ). m ++ drop k o) (zero-add (length m) ∙ l) ∙ ap (λ (v : List ℕ). v ++ drop (lengthOf rows) o) (sym e)
@@ -85,7 +85,7 @@ module _ (x : Shape) where
   abbrev Fields : Kind → Type 0
   Fields k = InFields (shapeRows k (x .count)) (valueOf x)
 
-  starts : (k : Kind) → (k ≡ Polygon → ⊥) → Listed (shapeRows k (x .count)) → Fields k → Position (valueOf x) 0
+  starts : (k : Kind) → (k ≡ Polygon → ⊥) → TypeKnown (shapeRows k (x .count)) → Fields k → Position (valueOf x) 0
   starts Nothing o l h = absurd (omega arith)
   starts Point o l h = record { sign = h .each (south 0); size = h .each (latitude 0); turn = h .each (longitude 0) }
   starts Circle o l h = record { sign = h .each (south 0); size = h .each (latitude 0); turn = h .each (longitude 0) }
@@ -98,7 +98,7 @@ module _ (x : Shape) where
   abbrev fixedOctets : Kind → List ℕ
   fixedOctets k = (16 * typeOf (x .kind)) ∷ (position (x .latitude) (x .longitude) ++ rest k x)
 
-  started-message : (k : Kind) → (k ≡ Polygon → ⊥) → Listed (shapeRows k (x .count)) → Fields k → Position (valueOf x) 0 → message (shapeRows k (x .count)) (valueOf x) ≡ fixedOctets k
+  started-message : (k : Kind) → (k ≡ Polygon → ⊥) → TypeKnown (shapeRows k (x .count)) → Fields k → Position (valueOf x) 0 → message (shapeRows k (x .count)) (valueOf x) ≡ fixedOctets k
   started-message Nothing o l h p = absurd (omega arith)
   started-message Point o l h p = point-message (valueOf x) (x .count) (type-small (x .kind)) p
   started-message Circle o l h p = circle-message (valueOf x) (x .count) (type-small (x .kind)) p (h .each uncertainty)
@@ -110,7 +110,7 @@ module _ (x : Shape) where
   started-message Arc o l h p =
       arc-message (valueOf x) (x .count) (type-small (x .kind)) p (h .each innerRadius) (h .each uncertainty) (h .each offset) (h .each included) (h .each confidence)
 
-  module _ (room : ℕ) (s : Storable x room) where
+  module _ (room : ℕ) (s : ShapeStorable x room) where
     -- a kind with one position
     module _ (other : x .kind ≡ Polygon → ⊥) where
       pub start-within : Position (valueOf x) 0

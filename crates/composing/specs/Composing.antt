@@ -1,4 +1,4 @@
--- The octets that the parts of the writer store. Assumes nothing.
+-- The octets that the parts of the writer store.
 use mathlib.Core.List.{List, [], _∷_, _++_}
 use Prim.Native.Nat.{ℕ, zero, suc, _≤_, _<_}
 use lib.ListN.{getD, drop}
@@ -12,13 +12,13 @@ use Rattle.layout.specs.declared.shape.Kind.the-variants.{Nothing, Point, Circl
 use Rattle.layout.specs.declared.shape.Shape.{Shape}
 use Rattle.layout.specs.Layout.{shapeRows}
 use Rattle.layout.specs.Rows.{lengthOf, message}
-use Rattle.layout.specs.Demands.{Listed, CountSound, InFields, Writes}
+use Rattle.layout.specs.Demands.{TypeKnown, CountSound, InFields, Writes}
 use Rattle.layout.specs.Shapes.{rowsOf, valueOf, zeroLatitude, zeroLongitude}
-use Rattle.code_cells.specs.Shapes.{rowsIn, valueIn}
+use Rattle.code_arrays.specs.Shapes.{arrayRows, valueIn}
 
--- the record that cells say is written
-abbrev pub WritesCells : List ℕ → List ℕ → List ℕ → Written → Type 0
-WritesCells cells = Writes (rowsIn cells) (valueIn cells)
+-- the record that elements say is written
+abbrev pub WritesElements : List ℕ → List ℕ → List ℕ → Written → Type 0
+WritesElements elements = Writes (arrayRows elements) (valueIn elements)
 
 -- the octets of the first n of these points
 abbrev pub positions : List LatitudeCode → List LongitudeCode → ℕ → List ℕ
@@ -47,8 +47,8 @@ pub record RestFits (x : Shape) (room : ℕ) : Type 0 where
   pub level : x .altitude .1 < 32768
 
 -- a record whose message can be stored in so much room
-pub record Storable (x : Shape) (room : ℕ) : Type 0 where
-  pub listed : Listed (rowsOf x)
+pub record ShapeStorable (x : Shape) (room : ℕ) : Type 0 where
+  pub listed : TypeKnown (rowsOf x)
   pub counted : CountSound (rowsOf x) (valueOf x)
   pub fields : InFields (rowsOf x) (valueOf x)
   pub fits : lengthOf (rowsOf x) ≤ room

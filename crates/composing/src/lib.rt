@@ -1,4 +1,4 @@
-// The message of the record that a shape's cells say, stored as octets: document 01, "Octet layouts".
+// The message of the record that a shape's elements say, stored as octets: document 01, "Octet layouts".
 mod message;
 mod points;
 
@@ -9,16 +9,16 @@ use layout::Written;
 ghost use mathlib.Core.Path.{_≡_};
 ghost use Prim.Native.Nat.{_≤_};
 ghost use lib.ListN.{length};
-ghost use Rattle.code_cells.specs.Shapes.{kindIn, rowsIn, valueIn};
+ghost use Rattle.code_arrays.specs.Shapes.{arrayKind, arrayRows, valueIn};
 ghost use Rattle.judging.specs.Judging.{RecordAnswer};
-ghost use Rattle.composing.specs.Composing.{WritesCells};
+ghost use Rattle.composing.specs.Composing.{WritesElements};
 
 // Writes the message into the first octets of the buffer, or refuses the record and leaves the buffer as it is.
 pub fn write(out: &mut [u8], codes: &[u32]) -> Written
     requires { ⌜ 61 ≤ length (now codes) ⌝ }
-    ensures { λ r. ⌜ WritesCells (now (codes .entry)) (now (out .entry)) (now (out .exit)) r ⌝ }
+    ensures { λ r. ⌜ WritesElements (now (codes .entry)) (now (out .entry)) (now (out .exit)) r ⌝ }
 {
-    let kind = code_cells::kind_in(codes);
+    let kind = code_arrays::kind_in(codes);
     match judging::outcome(codes, kind) {
         Outcome::Done => write_taken(out, codes, kind),
         Outcome::Refused(why) => Written {
@@ -31,9 +31,9 @@ pub fn write(out: &mut [u8], codes: &[u32]) -> Written
 // 10, of a record that is taken.
 fn write_taken(out: &mut [u8], codes: &[u32], kind: Kind) -> Written
     requires { ⌜ 61 ≤ length (now codes) ⌝ }
-    requires { ⌜ kind ≡ kindIn (now codes) ⌝ }
-    requires { ⌜ RecordAnswer (rowsIn (now codes)) (valueIn (now codes)) 0 ⌝ }
-    ensures { λ r. ⌜ WritesCells (now (codes .entry)) (now (out .entry)) (now (out .exit)) r ⌝ }
+    requires { ⌜ kind ≡ arrayKind (now codes) ⌝ }
+    requires { ⌜ RecordAnswer (arrayRows (now codes)) (valueIn (now codes)) 0 ⌝ }
+    ensures { λ r. ⌜ WritesElements (now (codes .entry)) (now (out .entry)) (now (out .exit)) r ⌝ }
 {
     let length = layout::message_length(kind, codes[1] as u8);
     if out.len() < length {

@@ -7,15 +7,15 @@ ghost use Prim.Native.Nat.{_≤_};
 ghost use lib.ListN.{length};
 ghost use lib.Seq.{sets};
 ghost use Rattle.layout.specs.Demands.{InFields};
-ghost use Rattle.code_cells.specs.Shapes.{kindIn, rowsIn, valueIn, recordIn};
-ghost use Rattle.composing.specs.Composing.{Storable, stored, restOf, RestFits};
+ghost use Rattle.code_arrays.specs.Shapes.{arrayKind, arrayRows, valueIn, recordIn};
+ghost use Rattle.composing.specs.Composing.{ShapeStorable, stored, restOf, RestFits};
 
 // Stores the message.
 pub fn put(out: &mut [u8], codes: &[u32], kind: Kind)
     requires { ⌜ 61 ≤ length (now codes) ⌝ }
-    requires { ⌜ kind ≡ kindIn (now codes) ⌝ }
-    requires { ⌜ InFields (rowsIn (now codes)) (valueIn (now codes)) ⌝ }
-    requires { ⌜ Storable (recordIn (now codes)) (length (now out)) ⌝ }
+    requires { ⌜ kind ≡ arrayKind (now codes) ⌝ }
+    requires { ⌜ InFields (arrayRows (now codes)) (valueIn (now codes)) ⌝ }
+    requires { ⌜ ShapeStorable (recordIn (now codes)) (length (now out)) ⌝ }
     ensures { λ _. ⌜ now (out .exit) ≡ stored (recordIn (now (codes .entry))) (now (out .entry)) ⌝ }
 {
     let first = layout::first_octet(kind);
@@ -24,11 +24,11 @@ pub fn put(out: &mut [u8], codes: &[u32], kind: Kind)
         points::put(out, codes);
         return;
     }
-    let outline = code_cells::outline_in(codes, kind);
+    let outline = code_arrays::outline_in(codes, kind);
     let latitude = outline.latitude;
     let longitude = outline.longitude;
     out[0] = first;
-    storing::put_position(out, 1, latitude, longitude);
+    octets::put_position(out, 1, latitude, longitude);
     put_rest(out, outline);
 }
 
@@ -51,17 +51,17 @@ fn put_rest(out: &mut [u8], shape: Shape)
         Kind::Nothing => {}
         Kind::Point => {}
         Kind::Circle => out[7] = uncertainty,
-        Kind::Ellipse => storing::put_four(out, 7, major, minor, orientation, confidence),
+        Kind::Ellipse => octets::put_four(out, 7, major, minor, orientation, confidence),
         Kind::Polygon => {}
-        Kind::AltitudePoint => storing::put_altitude(out, 7, altitude),
+        Kind::AltitudePoint => octets::put_altitude(out, 7, altitude),
         Kind::AltitudeEllipsoid => {
-            storing::put_altitude(out, 7, altitude);
-            storing::put_four(out, 9, major, minor, orientation, altitude_uncertainty);
+            octets::put_altitude(out, 7, altitude);
+            octets::put_four(out, 9, major, minor, orientation, altitude_uncertainty);
             out[13] = confidence;
         }
         Kind::Arc => {
-            storing::put_word(out, 7, shape.inner_radius.0);
-            storing::put_four(out, 9, uncertainty, offset, included, confidence);
+            octets::put_word(out, 7, shape.inner_radius.0);
+            octets::put_four(out, 9, uncertainty, offset, included, confidence);
         }
     }
 }

@@ -4,7 +4,7 @@ ghost use mathlib.Core.Path.{_≡_};
 ghost use Prim.Native.Nat.{_+_, _*_, _≤_};
 ghost use lib.ListN.{length};
 ghost use lib.Seq.{sets};
-ghost use Rattle.code_cells.specs.Shapes.{valueIn, recordIn};
+ghost use Rattle.code_arrays.specs.Shapes.{valueIn, recordIn};
 ghost use Rattle.layout.specs.Layout.{count};
 ghost use Rattle.limits.specs.Limits.{UsedWithin};
 ghost use Rattle.composing.specs.Composing.{positions};
@@ -22,8 +22,8 @@ pub fn put(out: &mut [u8], codes: &[u32])
     while i < end {
         let at = 16 + 3 * i;
         let latitude = LatitudeCode(codes[at] == 1, codes[at + 1]);
-        let longitude = cells::longitude_of(codes[at + 2]);
-        storing::put_position(out, 1 + 6 * i, latitude, longitude);
+        let longitude = code_arrays::longitude_of(codes[at + 2]);
+        octets::put_position(out, 1 + 6 * i, latitude, longitude);
         i += 1;
     }
 }

@@ -1,6 +1,6 @@
--- Confidence: 1 to 100 per cent; 0 none; 101 and above not used. Assumes nothing.
+-- Confidence: 1 to 100 per cent; 0 none; 101 and above not used.
 use mathlib.Core.Path.{_≡_}
-use Prim.Native.Nat.{ℕ, _≤_, _<_}
+use Prim.Native.Nat.{ℕ, _≤_}
 use Rattle.ground.specs.Answers.{numberOf, Said, done, refused, Answer}
 use Rattle.ground.specs.Sets.{Outside}
 use Rattle.ground.specs.declared.quantity.Confidence.{Confidence}

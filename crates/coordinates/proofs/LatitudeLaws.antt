@@ -1,4 +1,4 @@
--- The least size in a latitude step is its lower end, rounded up. Assumes nothing.
+-- The least size in a latitude step is its lower end, rounded up.
 use mathlib.Core.Path.{_≡_}
 use Prim.Native.Nat.{ℕ, _+_, _*_, _/_, _<_}
 use native.Mathlib.Omega.{arith}

@@ -1,3 +1,3 @@
-pub mod PartLaws
 pub mod LatitudeLaws
 pub mod LongitudeLaws
+pub mod PartLaws

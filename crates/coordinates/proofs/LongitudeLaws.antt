@@ -1,4 +1,4 @@
--- Longitude steps in natural numbers, where omega reads them; what the coder and the reporter compute is in the set. Assumes nothing.
+-- Longitude steps in natural numbers, where omega reads them; what the coder and the reporter compute is in the set.
 use mathlib.Core.Path.{_≡_, refl, sym, ap, _∙_, subst}
 use mathlib.Core.Bool.{Bool, true, false, cond}
 use mathlib.Core.Logic.{_⊎_, inl, inr, ⊎-elim}
@@ -7,7 +7,7 @@ use native.Mathlib.Nat.{add-mul, one-mul}
 use native.Mathlib.Omega.{arith}
 use lib.Dec.{T, eqb}
 use lib.IntN.{ℤ, pos, negsuc, natAbs, subℕ, _+ℤ_, _-ℤ_, _*ℤ_}
-use lib.Signed.{mag, _≤ℤ_, _<ℤ_}
+use lib.Signed.{mag}
 use borrow.Author.Tests.{eqb-true, eqb-false}
 use mir.Syntax.{Width}
 use mir.Val.{SFits, hbits, toZ, ofZ}

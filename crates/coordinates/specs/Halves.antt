@@ -1,4 +1,4 @@
--- A signed number as what it is above zero and what it is below, and half a turn taken off. Assumes nothing.
+-- A signed number as what it is above zero and what it is below, and half a turn taken off.
 use mathlib.Core.Path.{_≡_}
 use Prim.Native.Nat.{ℕ, suc, _+_}
 use lib.IntN.{ℤ, pos, negsuc}

@@ -1,4 +1,4 @@
--- Latitude codes: a sign, and N of 23 bits. Assumes nothing.
+-- Latitude codes: a sign, and N of 23 bits.
 use Prim.Native.Nat.{ℕ, _+_, _*_, _^_, _≤_, _<_}
 use lib.IntN.{ℤ, natAbs}
 use Rattle.ground.specs.Answers.{numberOf, Said, done, refused, Answer}

@@ -1,3 +1,3 @@
+pub mod Halves
 pub mod Latitude
 pub mod Longitude
-pub mod Halves

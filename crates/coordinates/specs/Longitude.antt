@@ -1,4 +1,4 @@
--- Longitude codes: N, signed, of 24 bits. Assumes nothing.
+-- Longitude codes: N, signed, of 24 bits.
 use mathlib.Core.Bool.{cond}
 use Prim.Native.Nat.{ℕ, _*_, _^_, _≤_, _<_}
 use lib.Dec.{eqb}

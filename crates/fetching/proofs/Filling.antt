@@ -1,4 +1,4 @@
--- Lists that are filled from the front: one element more, for elements of any type. Assumes nothing.
+-- Lists that are filled from the front: one element more, for elements of any type.
 use Prim.Native.Nat.{ℕ, zero, suc, _+_, _-_, _<_, _≤_}
 use mathlib.Core.Path.{_≡_, refl, sym, ap, _∙_}
 use mathlib.Core.List.{List, _∷_, [], _++_, append-assoc, append-nil}

@@ -1,4 +1,4 @@
--- The record that the loop makes is the one that a polygon's rows say. Assumes nothing.
+-- The record that the loop makes is the one that a polygon's rows say.
 use Prim.Native.Nat.{ℕ, suc, _+_, _-_, _*_, _≤_, _<_}
 use mathlib.Core.Path.{_≡_, ap, sym, _∙_}
 use mathlib.Core.List.{List, _++_}
@@ -7,19 +7,19 @@ use lib.ListN.{replicate}
 use Rattle.octets.specs.Bits.{bits}
 use Rattle.octets.specs.Codes.{signOf, fromComplement, latitudeIn, longitudeIn}
 use Rattle.layout.specs.declared.shape.Kind.the-variants.{Polygon}
-use Rattle.layout.specs.Layout.{Field, south, latitude, longitude, depth, altitude, uncertainty, semiMajor, semiMinor, orientation, altitudeUncertainty, confidence, innerRadius, offset, included}
+use Rattle.layout.specs.Layout.{MessageField, south, latitude, longitude, depth, altitude, uncertainty, semiMajor, semiMinor, orientation, altitudeUncertainty, confidence, innerRadius, offset, included}
 use Rattle.layout.specs.Rows.{tag, read}
 use Rattle.layout.specs.Shapes.{upto, latitudeOf, longitudeOf, zeroLatitude, zeroLongitude}
 use Rattle.layout.proofs.TidyLaws.{read-bits, read-row}
 use Rattle.layout.proofs.PolygonLaws.{point-row, point-found, none-found}
-use Rattle.fetching.specs.Fetching.{rowsFor, recordOf, polygonOf}
+use Rattle.fetching.specs.Fetching.{rowsFor, shapeOfKind, polygonOf}
 use Rattle.fetching.proofs.Filling.{padded}
 
 module _ (s : List ℕ) where
   n : ℕ
   n = bits s 4 4
 
-  value : Field → ℕ
+  value : MessageField → ℕ
   value = read s (rowsFor Polygon s)
 
   no-bits : (first w : ℕ) → w ≡ 0 → bits s first w ≡ 0
@@ -27,11 +27,11 @@ module _ (s : List ℕ) where
   no-bits first w e = rw e
 
   -- a field that is not the polygon's is zero
-  none : (f : Field) → 2 ≤ tag f → (22 ≤ tag f → 3 * n + 22 ≤ tag f) → 0 ≡ value f
+  none : (f : MessageField) → 2 ≤ tag f → (22 ≤ tag f → 3 * n + 22 ≤ tag f) → 0 ≡ value f
   unfolding n value
   none f l h = sym (read-bits s (rowsFor Polygon s) f ∙ no-bits _ _ (none-found (bits s 4 4) f l h))
 
-  low : (f : Field) → 2 ≤ tag f → tag f < 22 → 0 ≡ value f
+  low : (f : MessageField) → 2 ≤ tag f → tag f < 22 → 0 ≡ value f
   low f l h = none f l (λ m. absurd (omega arith))
 
   -- a field of the point i
@@ -61,7 +61,7 @@ module _ (s : List ℕ) where
       let e : n + (15 - n) ≡ 15 = omega arith in
       padded f n (15 - n) z g same pad ∙ ap (λ (m : ℕ). upto m g) e
 
-  pub polygon-record : bits s 4 4 ≤ 15 → polygonOf (bits s 4 4) s ≡ recordOf Polygon s
+  pub polygon-record : bits s 4 4 ≤ 15 → polygonOf (bits s 4 4) s ≡ shapeOfKind Polygon s
   unfolding fromComplement n value
   polygon-record h = λ j. record {
     kind = Polygon;

@@ -1,4 +1,4 @@
--- The record of a kind in octets, in the words of the layout table. Assumes nothing.
+-- The record of a kind in octets, in the words of the layout table.
 use mathlib.Core.Path.{_≡_}
 use mathlib.Core.List.{List, _++_}
 use Prim.Native.Nat.{ℕ, _+_, _-_, _*_}
@@ -10,7 +10,7 @@ use Rattle.octets.specs.Codes.{latitudeIn, longitudeIn}
 use Rattle.layout.specs.declared.shape.Kind.{Kind}
 use Rattle.layout.specs.declared.shape.Kind.the-variants.{Polygon}
 use Rattle.layout.specs.declared.shape.Shape.{Shape}
-use Rattle.layout.specs.Layout.{Row, shapeRows, start, level}
+use Rattle.layout.specs.Layout.{Row, shapeRows, start, altitudeRows}
 use Rattle.layout.specs.Rows.{read, lengthOf}
 use Rattle.layout.specs.Shapes.{shapeOf, blankShape, upto, zeroLatitude, zeroLongitude}
 
@@ -19,18 +19,18 @@ abbrev pub rowsFor : Kind → List ℕ → List Row
 rowsFor k s = shapeRows k (bits s 4 4)
 
 -- octets as many as its messages have
-abbrev pub OfLength : Kind → List ℕ → Type 0
-OfLength k s = length s ≡ lengthOf (rowsFor k s)
+abbrev pub ShapeOfLength : Kind → List ℕ → Type 0
+ShapeOfLength k s = length s ≡ lengthOf (rowsFor k s)
 
 -- the record of a kind in octets; of the start alone; with the altitude
-abbrev pub recordOf : Kind → List ℕ → Shape
-recordOf k s = shapeOf k (read s (rowsFor k s))
+abbrev pub shapeOfKind : Kind → List ℕ → Shape
+shapeOfKind k s = shapeOf k (read s (rowsFor k s))
 
 abbrev pub startOf : Kind → List ℕ → Shape
 startOf k s = shapeOf k (read s start)
 
 abbrev pub levelOf : Kind → List ℕ → Shape
-levelOf k s = shapeOf k (read s (start ++ level))
+levelOf k s = shapeOf k (read s (start ++ altitudeRows))
 
 -- a polygon's record: n points of six octets after the first octet, and zeros
 abbrev pub latitudesOf : ℕ → List ℕ → List LatitudeCode

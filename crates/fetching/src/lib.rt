@@ -15,13 +15,13 @@ ghost use Prim.Native.Nat.{_≤_};
 ghost use lib.ListN.{length};
 ghost use Rattle.octets.specs.Bits.{bits};
 ghost use Rattle.layout.specs.declared.shape.Kind.the-variants.{Circle, Ellipse, AltitudeEllipsoid, Arc};
-ghost use Rattle.fetching.specs.Fetching.{OfLength, recordOf, startOf, levelOf};
+ghost use Rattle.fetching.specs.Fetching.{ShapeOfLength, shapeOfKind, startOf, levelOf};
 
 // n is a polygon's count.
 pub fn shape(s: &[u8], kind: Kind, n: u8) -> Shape
     requires { ⌜ n ≡ bits (now s) 4 4 ⌝ }
-    requires { ⌜ OfLength kind (now s) ⌝ }
-    ensures { λ r. ⌜ r ≡ recordOf kind (now (s .entry)) ⌝ }
+    requires { ⌜ ShapeOfLength kind (now s) ⌝ }
+    ensures { λ r. ⌜ r ≡ shapeOfKind kind (now (s .entry)) ⌝ }
 {
     match kind {
         Kind::Nothing => layout::blank_shape(Kind::Nothing),
@@ -48,7 +48,7 @@ fn started(s: &[u8], kind: Kind) -> Shape
 
 fn circle(s: &[u8]) -> Shape
     requires { ⌜ 8 ≤ length (now s) ⌝ }
-    ensures { λ r. ⌜ r ≡ recordOf Circle (now (s .entry)) ⌝ }
+    ensures { λ r. ⌜ r ≡ shapeOfKind Circle (now (s .entry)) ⌝ }
 {
     let mut shape = started(s, Kind::Circle);
     let uncertainty = UncertaintyCode(octets::low_seven(s, 7));
@@ -58,7 +58,7 @@ fn circle(s: &[u8]) -> Shape
 
 fn ellipse(s: &[u8]) -> Shape
     requires { ⌜ 11 ≤ length (now s) ⌝ }
-    ensures { λ r. ⌜ r ≡ recordOf Ellipse (now (s .entry)) ⌝ }
+    ensures { λ r. ⌜ r ≡ shapeOfKind Ellipse (now (s .entry)) ⌝ }
 {
     let mut shape = started(s, Kind::Ellipse);
     let semi_major = UncertaintyCode(octets::low_seven(s, 7));
@@ -84,7 +84,7 @@ fn levelled(s: &[u8], kind: Kind) -> Shape
 
 fn altitude_ellipsoid(s: &[u8]) -> Shape
     requires { ⌜ 14 ≤ length (now s) ⌝ }
-    ensures { λ r. ⌜ r ≡ recordOf AltitudeEllipsoid (now (s .entry)) ⌝ }
+    ensures { λ r. ⌜ r ≡ shapeOfKind AltitudeEllipsoid (now (s .entry)) ⌝ }
 {
     let mut shape = levelled(s, Kind::AltitudeEllipsoid);
     let semi_major = UncertaintyCode(octets::low_seven(s, 9));
@@ -102,7 +102,7 @@ fn altitude_ellipsoid(s: &[u8]) -> Shape
 
 fn arc(s: &[u8]) -> Shape
     requires { ⌜ 13 ≤ length (now s) ⌝ }
-    ensures { λ r. ⌜ r ≡ recordOf Arc (now (s .entry)) ⌝ }
+    ensures { λ r. ⌜ r ≡ shapeOfKind Arc (now (s .entry)) ⌝ }
 {
     let mut shape = started(s, Kind::Arc);
     let inner_radius = InnerRadiusCode(octets::word(s, 7));

@@ -1,4 +1,4 @@
--- What a report promises is what document 01's column "Quantity reported" says. Assumes nothing.
+-- What a report promises is what document 01's column "Quantity reported" says.
 use mathlib.Core.Path.{_≡_, ap, sym, subst, _∙_}
 use mathlib.Core.Bool.{true}
 use Prim.Native.Nat.{ℕ, _+_, _*_}

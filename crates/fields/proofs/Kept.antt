@@ -1,4 +1,4 @@
--- A code keeps its value: the quantity reported for it, coded afresh, gives that code, and so however often it travels. Assumes nothing.
+-- A code keeps its value: the quantity reported for it, coded afresh, gives that code, and so however often it travels.
 use mathlib.Core.Path.{_≡_, refl, ap, _∙_, subst, subst⁻¹}
 use Prim.Native.Nat.{ℕ, _+_, _*_, _-_, _<_}
 use native.Mathlib.Omega.{arith}

@@ -1,9 +1,9 @@
-pub mod StepLaws
-pub mod SetLaws
+pub mod Column
+pub mod Kept
 pub mod LongitudeLaws
 pub mod OneAnswer
 pub mod OneOfEach
-pub mod Kept
-pub mod QuantityLaws
-pub mod Column
 pub mod PlaceLaws
+pub mod QuantityLaws
+pub mod SetLaws
+pub mod StepLaws

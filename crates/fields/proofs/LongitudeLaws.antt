@@ -1,4 +1,4 @@
--- Each longitude within 180 degrees is in the set of one code, and a code's lowest longitude is one. Assumes nothing.
+-- Each longitude within 180 degrees is in the set of one code, and a code's lowest longitude is one.
 use mathlib.Core.Path.{_≡_, refl, ap}
 use mathlib.Core.Bool.{Bool, true, false, cond}
 use mathlib.Core.Logic.{⊎-elim}

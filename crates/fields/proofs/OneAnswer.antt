@@ -1,4 +1,4 @@
--- One answer: coding a quantity says one thing, and reporting a code says one thing, for every field. Assumes nothing.
+-- One answer: coding a quantity says one thing, and reporting a code says one thing, for every field.
 use mathlib.Core.Path.{_≡_, refl, sym, ap, _∙_}
 use mathlib.Core.Bool.{Bool}
 use Prim.Native.Nat.{ℕ, _≤_, _<_}

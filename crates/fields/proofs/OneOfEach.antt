@@ -1,4 +1,4 @@
--- One answer of every public function, in its own type: what an answer says tells which it is, and its promise leaves one thing to say. Assumes nothing.
+-- One answer of every public function, in its own type: what an answer says tells which it is, and its promise leaves one thing to say.
 use mathlib.Core.Path.{_≡_, refl, ap}
 use mathlib.Core.Bool.{false}
 use lib.IntN.{pos}

@@ -1,4 +1,4 @@
--- A place is one field's. Assumes nothing.
+-- A place is one field's.
 use mathlib.Core.Path.{_≡_, refl, sym, ap, _∙_}
 use mathlib.Core.List.{List, [], _∷_}
 use Prim.Native.Nat.{ℕ, _≤_, _<_}

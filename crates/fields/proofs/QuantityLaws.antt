@@ -1,4 +1,4 @@
--- The quantity worked out for a code is the one that reporting promises. Assumes nothing.
+-- The quantity worked out for a code is the one that reporting promises.
 use mathlib.Core.Path.{_≡_, refl}
 use mathlib.Core.Bool.{Bool, true, false, cond}
 use Prim.Native.Nat.{_+_, _-_, _*_, _/_, _<_}
@@ -24,18 +24,18 @@ use Rattle.radii.proofs.TableLaws.{is-greatest}
 use Rattle.speeds.specs.Speeds.{UncertaintySpeedReporting}
 use Rattle.confidences.specs.Confidences.{ConfidenceSet}
 use Rattle.fields.specs.Fields.{Field, latitude, longitude, uncertainty, altitudeUncertainty, altitude, innerRadius, offset, included, orientation, bearing, horizontalSpeed, verticalSpeed, uncertaintySpeed, confidence, CodeOf, QuantityOf, Reporting}
-use Rattle.fields.specs.Quantities.{latitudeSize, longitudeOf, quantityOf, Held}
+use Rattle.fields.specs.Quantities.{latitudeSize, longitudeQuantity, quantityOf, Held}
 use Rattle.fields.proofs.OneAnswer.{reporting-one}
 
 turns : (N : ℤ) → mag N < 8388608 → (up N + 8388608 - down N < 16777216) × (up N + 8388608 - down N + down N ≡ up N + 8388608)
 turns (pos n) h = (omega arith, omega arith)
 turns (negsuc n) h = (omega arith, omega arith)
 
-longitude-lowest : (N : ℤ) → mag N < 8388608 → LowestOf (LongitudeSet N) (longitudeOf N)
+longitude-lowest : (N : ℤ) → mag N < 8388608 → LowestOf (LongitudeSet N) (longitudeQuantity N)
 longitude-lowest N h =
     let m = up N + 8388608 - down N in
     let t = turns N h in
-    reported N (longitudeOf N) m ((m * 360000000000 + 16777215) / 16777216) h (t .0) (t .1) refl (sub-parts ((m * 360000000000 + 16777215) / 16777216) 180000000000)
+    reported N (longitudeQuantity N) m ((m * 360000000000 + 16777215) / 16777216) h (t .0) (t .1) refl (sub-parts ((m * 360000000000 + 16777215) / 16777216) 180000000000)
 
 speed-by : (c : UncertaintySpeedCode) → c .0 < 256 → (b : Bool) → eqb (c .0) 255 ≡ b → UncertaintySpeedReporting c (cond b uncertain.Missing (uncertain.Speed (record { 0 = 1000 * c .0 })))
 speed-by c h true e = eqb-true (c .0) 255 e

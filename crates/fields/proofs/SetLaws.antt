@@ -1,4 +1,4 @@
--- One code, one report: laws over any set of quantities and any covering. Assumes nothing.
+-- One code, one report: laws over any set of quantities and any covering.
 use mathlib.Core.Path.{_≡_, refl, sym, _∙_}
 use mathlib.Core.Bool.{Bool, true, false}
 use Prim.Native.Nat.{ℕ, zero, suc, _+_, _-_, _*_, _≤_, _<_}

@@ -1,4 +1,4 @@
--- Each quantity is in the step of one code, whatever the unit and the number of codes. Assumes nothing.
+-- Each quantity is in the step of one code, whatever the unit and the number of codes.
 use mathlib.Core.Path.{_≡_}
 use Prim.Native.Nat.{ℕ, _+_, _-_, _*_, _≤_, _<_}
 use native.Mathlib.Nat.{mul-le-mul-left, mul-le-mul-right, le-antisymm}

@@ -1,4 +1,4 @@
--- Document 01's table: what each field's codes and quantities are, and what coding and reporting promise. Assumes nothing.
+-- Document 01's table: what each field's codes and quantities are, and what coding and reporting promise.
 use Prim.Native.Nat.{_<_}
 use Rattle.ground.specs.Answers.{Said, done, Answer, Always}
 use Rattle.ground.specs.declared.quantity.Nanodegrees.{Nanodegrees}

@@ -1,5 +1,5 @@
 pub mod Fields
-pub mod Travels
-pub mod Reported
-pub mod Quantities
 pub mod Places
+pub mod Quantities
+pub mod Reported
+pub mod Travels

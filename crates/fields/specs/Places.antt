@@ -1,4 +1,4 @@
--- THE PLACES OF THE FIELDS, from 0, in the order of document 01's table. Assumes nothing.
+-- THE PLACES OF THE FIELDS, from 0, in the order of document 01's table.
 use Prim.Native.Nat.{ℕ}
 use Rattle.fields.specs.Fields.{Field, latitude, longitude, uncertainty, altitudeUncertainty, altitude, innerRadius, offset, included, orientation, bearing, horizontalSpeed, verticalSpeed, uncertaintySpeed, confidence}
 

@@ -1,5 +1,5 @@
 -- The quantity reported of a code, as a number: document 01's column "Quantity reported" worked out. That it is the quantity
--- which reporting promises is a law (`proofs/QuantityLaws.antt`). Assumes nothing.
+-- which reporting promises is a law (`proofs/QuantityLaws.antt`).
 use mathlib.Core.Bool.{cond}
 use Prim.Native.Nat.{ℕ, _+_, _-_, _*_, _/_, _^_, _<_}
 use lib.Dec.{eqb}
@@ -34,8 +34,8 @@ abbrev pub latitudeSize : ℕ → ℕ
 latitudeSize N = (N * 90000000000 + 8388607) / 8388608
 
 -- N·360 degrees / 2^24, rounded up: from half a turn west of zero, where N + 2^23 is 0
-abbrev pub longitudeOf : ℤ → ℤ
-longitudeOf N = subℕ (((up N + 8388608 - down N) * 360000000000 + 16777215) / 16777216) 180000000000
+abbrev pub longitudeQuantity : ℤ → ℤ
+longitudeQuantity N = subℕ (((up N + 8388608 - down N) * 360000000000 + 16777215) / 16777216) 180000000000
 
 -- the whole part of scale·((num/den)^K - 1)
 abbrev pub wholePart : ℕ → ℕ → ℕ → ℕ → ℕ
@@ -43,7 +43,7 @@ wholePart scale num den K = scale * (num ^ K - den ^ K) / den ^ K
 
 unfoldable pub quantityOf : (f : Field) → CodeOf f → QuantityOf f
 quantityOf latitude c = record { 0 = signed (c .0) (latitudeSize (c .1)) }
-quantityOf longitude c = record { 0 = longitudeOf (c .0) }
+quantityOf longitude c = record { 0 = longitudeQuantity (c .0) }
 quantityOf uncertainty c = record { 0 = wholePart 10000 11 10 (c .0) }
 quantityOf altitudeUncertainty c = record { 0 = wholePart 45000 41 40 (c .0) }
 quantityOf altitude c = record { 0 = signed (c .0) (1000 * c .1) }

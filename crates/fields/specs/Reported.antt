@@ -1,4 +1,4 @@
--- Document 01's column "Quantity reported", in its own words. That a report is what the column says is a law (`proofs/Column.antt`). Assumes nothing.
+-- Document 01's column "Quantity reported", in its own words. That a report is what the column says is a law (`proofs/Column.antt`).
 use mathlib.Core.Path.{_≡_}
 use Prim.Native.Nat.{ℕ, _+_, _*_}
 use lib.IntN.{ℤ, pos, negsuc}

@@ -1,4 +1,4 @@
--- A code that travels: reported, and the reported quantity coded afresh, any number of times. Assumes nothing.
+-- A code that travels: reported, and the reported quantity coded afresh, any number of times.
 use Prim.Native.Nat.{ℕ, zero, suc}
 use Rattle.ground.specs.Answers.{Said, done}
 use Rattle.fields.specs.Fields.{Field, CodeOf, QuantityOf, Coding, Reporting}

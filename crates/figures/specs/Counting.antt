@@ -1,4 +1,4 @@
--- What the program keeps of its tally. Assumes nothing.
+-- What the program keeps of its tally.
 use mathlib.Core.Path.{_≡_}
 use Prim.Native.Nat.{ℕ, _+_, _≤_}
 use Rattle.figures.specs.declared.tally.Tally.{Tally}

@@ -1,4 +1,4 @@
--- From the answers of the reader's parts to its promise. Assumes nothing.
+-- From the answers of the reader's parts to its promise.
 use Prim.Native.Nat.{ℕ, zero, suc, _/_, _%_, _<_}
 use mathlib.Core.Path.{_≡_, refl, ap, sym, subst, _∙_}
 use mathlib.Core.List.{List}
@@ -15,19 +15,19 @@ use Rattle.layout.specs.declared.shape.Kind.{Kind}
 use Rattle.layout.specs.declared.shape.Kind.the-variants.{Nothing, Point, Circle, Ellipse, Polygon, AltitudePoint, AltitudeEllipsoid, Arc}
 use Rattle.layout.specs.declared.shape.Shape.{Shape}
 use Rattle.layout.specs.declared.shape.ShapeRead.{ShapeRead}
-use Rattle.layout.specs.Layout.{Field, Row, count, orientation, offset, included, bearing, confidence, shapeRows}
+use Rattle.layout.specs.Layout.{MessageField, Row, count, orientation, offset, included, bearing, confidence, shapeRows}
 use Rattle.layout.specs.Rows.{widthOf, read}
 use Rattle.layout.specs.Demands.{Used, CountSound, AnglesSound, ConfidenceSound, ReadAnswer, CodesAnswer}
 use Rattle.layout.specs.Shapes.{kindOf, kindIn, rowsIn, shapeIn, blankShape, ReadsShape}
 use Rattle.layout.proofs.TidyLaws.{read-in-fields}
 use Rattle.layout.proofs.PolygonLaws.{none-found}
-use Rattle.fetching.specs.Fetching.{rowsFor, OfLength, recordOf}
-use Rattle.forming.specs.Forming.{FormAnswer, RefusedWith}
+use Rattle.fetching.specs.Fetching.{rowsFor, ShapeOfLength, shapeOfKind}
+use Rattle.forming.specs.Forming.{MessageFormAnswer, ReadingRefused}
 
 -- ---- the codes: what is not used reads 0, so a demand on every code is one on those that are used
 
 module _ (s : List ℕ) (rows : List Row) where
-  below : (f : Field) (n w : ℕ) → 0 < n → widthOf rows f ≡ w → (Used rows f → read s rows f < n) → read s rows f < n
+  below : (f : MessageField) (n w : ℕ) → 0 < n → widthOf rows f ≡ w → (Used rows f → read s rows f < n) → read s rows f < n
   below f n zero h e used = omega (arith, rw e at (read-in-fields s rows .each f))
   below f n (suc w) h e used = used (omega arith)
 
@@ -75,7 +75,7 @@ module _ (s : List ℕ) where
   count-of c = record { least = λ u. rw (count-read (kindIn s) u) at (c .least u); most = λ u. rw (count-read (kindIn s) u) at (c .most u) }
 
   abbrev Form : ℕ → Type 0
-  Form = FormAnswer (kindIn s) (bits s 4 4) (length s)
+  Form = MessageFormAnswer (kindIn s) (bits s 4 4) (length s)
 
   abbrev Codes : Shape → ℕ → Type 0
   Codes x = CodesAnswer (x .orientation .0) (x .offset .0) (x .included .0) (x .confidence .0)
@@ -91,7 +91,7 @@ module _ (s : List ℕ) where
   no-form why some a =
       met some (unless-as (λ l. l) (λ l. l) (unless-as counted count-of (unless-as (λ w. w) (λ w. w) (λ e. absurd (not-0 why e)))) a)
 
-  pub refused-read : (why : Refusal) (r : ShapeRead) → ReadAnswer (rowsIn s) s (numberOf why) → RefusedWith why r → ReadsShape s r
+  pub refused-read : (why : Refusal) (r : ShapeRead) → ReadAnswer (rowsIn s) s (numberOf why) → ReadingRefused why r → ReadsShape s r
   refused-read why r a h = record {
     answer = subst (λ (o : Outcome). ReadAnswer (rowsIn s) s (outcomeNumber o)) (sym (h .outcome)) a;
     shape = h .shape ∙ sym (ap (λ (o : Outcome). handed o (shapeIn s) (blankShape Nothing)) (h .outcome));
@@ -111,34 +111,34 @@ starts s first k h e f = record {
   count = ap (λ (o : ℕ). o % 16) e ∙ bits-low s 0 4 4;
 }
 
-module _ (s : List ℕ) (k : Kind) (n : ℕ) (first : Starts s k n) (o : Outcome) (a : FormAnswer k n (length s) (outcomeNumber o)) where
+module _ (s : List ℕ) (k : Kind) (n : ℕ) (first : Starts s k n) (o : Outcome) (a : MessageFormAnswer k n (length s) (outcomeNumber o)) where
   own : (p : Outcome) → o ≡ p → Form s (outcomeNumber p)
   own p e =
       subst (λ (q : Outcome). Form s (outcomeNumber q)) e
-      (subst (λ (j : Kind). FormAnswer j (bits s 4 4) (length s) (outcomeNumber o)) (first .kind)
-      (subst (λ (i : ℕ). FormAnswer k i (length s) (outcomeNumber o)) (first .count) a))
+      (subst (λ (j : Kind). MessageFormAnswer j (bits s 4 4) (length s) (outcomeNumber o)) (first .kind)
+      (subst (λ (i : ℕ). MessageFormAnswer k i (length s) (outcomeNumber o)) (first .count) a))
 
-  pub form-refused : (why : Refusal) (r : ShapeRead) → o ≡ Refused why → RefusedWith why r → ReadsShape s r
+  pub form-refused : (why : Refusal) (r : ShapeRead) → o ≡ Refused why → ReadingRefused why r → ReadsShape s r
   form-refused why r e h = refused-read s why r (no-form s why (first .some) (own (Refused why) e)) h
 
-  pub of-length : o ≡ Done → OfLength k s
+  pub of-length : o ≡ Done → ShapeOfLength k s
   of-length e =
       let l = when-done _ 2 _ (λ z. absurd (omega arith)) (own Done e) in
       let n = when-done _ 4 _ (λ z. absurd (omega arith)) (l .1) in
       let w = when-done _ 3 _ (λ z. absurd (omega arith)) (n .1) in
-      subst (λ (j : Kind). OfLength j s) (sym (first .kind)) (w .0)
+      subst (λ (j : Kind). ShapeOfLength j s) (sym (first .kind)) (w .0)
 
   -- the record x, and the answer p to its codes
-  module _ (x : Shape) (e : o ≡ Done) (f : x ≡ recordOf k s) (p : Outcome) (c : Codes s x (outcomeNumber p)) where
+  module _ (x : Shape) (e : o ≡ Done) (f : x ≡ shapeOfKind k s) (p : Outcome) (c : Codes s x (outcomeNumber p)) where
     in-octets : x ≡ shapeIn s
-    in-octets = f ∙ ap (λ (j : Kind). recordOf j s) (first .kind)
+    in-octets = f ∙ ap (λ (j : Kind). shapeOfKind j s) (first .kind)
 
     answered : (q : Outcome) → p ≡ q → ReadAnswer (rowsIn s) s (outcomeNumber q)
     answered q g =
         whole s _ (first .some) (own Done e)
         (subst (λ (y : Shape). Codes s y (outcomeNumber q)) in-octets (subst (λ (r : Outcome). Codes s x (outcomeNumber r)) g c))
 
-    pub codes-refused : (why : Refusal) (r : ShapeRead) → p ≡ Refused why → RefusedWith why r → ReadsShape s r
+    pub codes-refused : (why : Refusal) (r : ShapeRead) → p ≡ Refused why → ReadingRefused why r → ReadsShape s r
     codes-refused why r g h = refused-read s why r (answered (Refused why) g) h
 
     pub done-read : p ≡ Done → ReadsShape s (record { outcome = Done; shape = x })

@@ -6,7 +6,7 @@ ghost use Prim.Native.Nat.{_<_};
 ghost use Rattle.ground.specs.Answers.{outcomeNumber};
 ghost use Rattle.layout.specs.declared.shape.Kind.the-variants.{Polygon};
 ghost use Rattle.layout.specs.Demands.{CodesAnswer};
-ghost use Rattle.forming.specs.Forming.{FormAnswer, LengthAnswer};
+ghost use Rattle.forming.specs.Forming.{MessageFormAnswer, LengthAnswer};
 
 // 5 and 6, of the codes in octets.
 pub fn codes_outcome(orientation: u8, offset: u8, included: u8, confidence: u8) -> Outcome
@@ -23,7 +23,7 @@ pub fn codes_outcome(orientation: u8, offset: u8, included: u8, confidence: u8) 
 // 2, 4 and 3, of so many octets; n is a polygon's count.
 pub fn form(length: usize, kind: Kind, n: u8) -> Outcome
     requires { ⌜ n < 16 ⌝ }
-    ensures { λ r. ⌜ FormAnswer kind n length (outcomeNumber r) ⌝ }
+    ensures { λ r. ⌜ MessageFormAnswer kind n length (outcomeNumber r) ⌝ }
 {
     match kind {
         Kind::Nothing => Outcome::Refused(Refusal::UnknownType),
@@ -50,7 +50,7 @@ fn of_length(length: usize, whole: usize) -> Outcome
 // 4 and 3. Four bits hold no count above 15.
 fn polygon(length: usize, n: u8) -> Outcome
     requires { ⌜ n < 16 ⌝ }
-    ensures { λ r. ⌜ FormAnswer Polygon n length (outcomeNumber r) ⌝ }
+    ensures { λ r. ⌜ MessageFormAnswer Polygon n length (outcomeNumber r) ⌝ }
 {
     let whole = 1 + 6 * (n as usize);
     if n < 3 {

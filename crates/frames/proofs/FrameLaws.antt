@@ -1,4 +1,4 @@
--- Laws of the frame at the start of some octets: where it is cut, that it stays when more octets follow, when more are waited for. Assumes nothing.
+-- Laws of the frame at the start of some octets: where it is cut, that it stays when more octets follow, when more are waited for.
 use Prim.Native.Nat.{ℕ, suc, _+_, _-_, _*_, _≤_, _<_}
 use mathlib.Core.Path.{_≡_, refl, sym, ap, subst}
 use mathlib.Core.Bool.{Bool, true, false, _&&_}

@@ -1,5 +1,5 @@
 -- FRAMES, document 01, "The lister": a two-octet big-endian length L of what follows, a version octet 1, a kind octet (0 shape,
--- 1 velocity), the message. Assumes nothing.
+-- 1 velocity), the message.
 use Prim.Native.Nat.{ℕ, _+_, _-_, _*_}
 use mathlib.Core.Bool.{Bool, true, false, _&&_}
 use mathlib.Core.List.{List, [], _∷_}

@@ -1,5 +1,5 @@
 -- One answer: what a promise of the shape `Answer` leaves open; demands that are looked at in order; what a test decides.
--- Assumes nothing.
+--
 use mathlib.Core.Path.{_≡_, refl, sym, ap, _∙_}
 use mathlib.Core.Bool.{Bool, true, false, not}
 use Prim.Native.Nat.{ℕ}

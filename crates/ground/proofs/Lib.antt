@@ -1,5 +1,5 @@
-pub mod SignLaws
-pub mod SetLaws
 pub mod AnswerLaws
 pub mod ListLaws
 pub mod MatchLaws
+pub mod SetLaws
+pub mod SignLaws

@@ -1,4 +1,4 @@
--- What a match on a number has told where its arms 0, 1, .., n - 1 are past. Assumes nothing.
+-- What a match on a number has told where its arms 0, 1, .., n - 1 are past.
 use mathlib.Core.Path.{_≡_}
 use Prim.Native.Nat.{ℕ, zero, suc, _≤_}
 use native.Mathlib.Omega.{arith}

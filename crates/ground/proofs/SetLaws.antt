@@ -1,4 +1,4 @@
--- Laws of sets of quantities, whatever the set. Assumes nothing.
+-- Laws of sets of quantities, whatever the set.
 use mathlib.Core.Path.{_≡_, refl, sym, ap, subst}
 use mathlib.Core.Bool.{Bool, true, false}
 use Prim.Native.Nat.{ℕ, zero, suc, _-_, _≤_}

@@ -1,4 +1,4 @@
--- What an answer says: document 01's number, and on 0 the values. Assumes nothing.
+-- What an answer says: document 01's number, and on 0 the values.
 use mathlib.Core.Path.{_≡_}
 use mathlib.Core.Bool.{Bool, true, false}
 use mathlib.Core.List.{[], _∷_}

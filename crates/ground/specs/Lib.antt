@@ -1,4 +1,4 @@
-pub mod Signs
 pub mod Answers
 pub mod Sets
+pub mod Signs
 pub mod Steps

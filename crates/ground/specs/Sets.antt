@@ -1,4 +1,4 @@
--- Sets of quantities, and the quantity of a set that is reported. Assumes nothing.
+-- Sets of quantities, and the quantity of a set that is reported.
 use mathlib.Core.Path.{_≡_}
 use mathlib.Core.Bool.{Bool}
 use Prim.Native.Nat.{ℕ, _≤_, _<_}

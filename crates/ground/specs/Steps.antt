@@ -1,4 +1,4 @@
--- Sets of quantities that are steps of one unit, for the codes N from 0 to last. Assumes nothing.
+-- Sets of quantities that are steps of one unit, for the codes N from 0 to last.
 use Prim.Native.Nat.{ℕ, _+_, _*_, _≤_, _<_}
 
 -- unit·N ≤ a < unit·(N + 1)

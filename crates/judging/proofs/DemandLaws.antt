@@ -1,4 +1,4 @@
--- The answer to the codes of a record, for each kind, and the record's answer from it. Assumes nothing.
+-- The answer to the codes of a record, for each kind, and the record's answer from it.
 use Prim.Native.Nat.{ℕ, _≤_, _<_}
 use mathlib.Core.Path.{_≡_, refl, sym, subst, _∙_}
 use mathlib.Core.List.{List}
@@ -8,19 +8,19 @@ use Rattle.ground.specs.declared.refusals.Refusal.{Refusal}
 use Rattle.ground.proofs.AnswerLaws.{not-0, when-done, unless-as}
 use Rattle.layout.specs.declared.shape.Kind.{Kind}
 use Rattle.layout.specs.declared.shape.Kind.the-variants.{Nothing, Point, Circle, Ellipse, Polygon, AltitudePoint, AltitudeEllipsoid, Arc}
-use Rattle.layout.specs.Layout.{Field, Row, count, orientation, offset, included, bearing, confidence, shapeRows}
+use Rattle.layout.specs.Layout.{MessageField, Row, count, orientation, offset, included, bearing, confidence, shapeRows}
 use Rattle.layout.specs.Rows.{tag, widthOf}
-use Rattle.layout.specs.Demands.{Listed, CountSound, AnglesSound, ConfidenceSound, InFields, CodesAnswer}
+use Rattle.layout.specs.Demands.{TypeKnown, CountSound, AnglesSound, ConfidenceSound, InFields, CodesAnswer}
 use Rattle.layout.proofs.PolygonLaws.{polygon-length, none-found}
-use Rattle.cells.specs.Codes.{cellAt}
-use Rattle.code_cells.specs.Shapes.{kindIn, rowsIn, valueIn}
-use Rattle.code_cells.proofs.CellLaws.{same-cell}
+use Rattle.code_arrays.specs.CodeNumbers.{elementAt}
+use Rattle.code_arrays.specs.Shapes.{arrayKind, arrayRows, valueIn}
+use Rattle.code_arrays.proofs.ArrayLaws.{same-element}
 use Rattle.judging.specs.Judging.{RecordAnswer, CodesAnswerOf, CountAnswer}
 
 -- ---- any rows
 
-module _ (rows : List Row) (value : Field → ℕ) where
-  unused : {A : Type 0} (f : Field) → widthOf rows f ≡ 0 → 0 < widthOf rows f → A
+module _ (rows : List Row) (value : MessageField → ℕ) where
+  unused : {A : Type 0} (f : MessageField) → widthOf rows f ≡ 0 → 0 < widthOf rows f → A
   unused f e u = absurd (omega arith)
 
   no-count : widthOf rows count ≡ 0 → CountSound rows value
@@ -33,16 +33,16 @@ module _ (rows : List Row) (value : Field → ℕ) where
   no-confidence e = record { confidences = unused confidence e }
 
   -- neither count, angle nor confidence
-  plain : Listed rows → widthOf rows count ≡ 0 → widthOf rows orientation ≡ 0 → widthOf rows offset ≡ 0 → widthOf rows included ≡ 0 → widthOf rows bearing ≡ 0 → widthOf rows confidence ≡ 0 → CodesAnswerOf rows value 0
+  plain : TypeKnown rows → widthOf rows count ≡ 0 → widthOf rows orientation ≡ 0 → widthOf rows offset ≡ 0 → widthOf rows included ≡ 0 → widthOf rows bearing ≡ 0 → widthOf rows confidence ≡ 0 → CodesAnswerOf rows value 0
   plain l a b c d f g = met l (met (no-count a) (met (no-angles b c d f) (met (no-confidence g) refl)))
 
-  coded : (a b c m : ℕ) → Listed rows → CountSound rows value → ((a < 180) × (b < 180) × (c < 180) → AnglesSound rows value) → (AnglesSound rows value → (a < 180) × (b < 180) × (c < 180)) → 0 < widthOf rows confidence
+  coded : (a b c m : ℕ) → TypeKnown rows → CountSound rows value → ((a < 180) × (b < 180) × (c < 180) → AnglesSound rows value) → (AnglesSound rows value → (a < 180) × (b < 180) × (c < 180)) → 0 < widthOf rows confidence
       → CodesAnswer a b c (value confidence) m → CodesAnswerOf rows value m
   coded a b c m l n to from u h =
       met l (met n (unless-as to from (unless-as (λ l. record { confidences = λ _. l }) (λ s. s .confidences u) (λ e. e)) h))
 
   -- an orientation and a confidence
-  oriented : (m : ℕ) → Listed rows → widthOf rows count ≡ 0 → 0 < widthOf rows orientation → widthOf rows offset ≡ 0 → widthOf rows included ≡ 0 → widthOf rows bearing ≡ 0 → 0 < widthOf rows confidence
+  oriented : (m : ℕ) → TypeKnown rows → widthOf rows count ≡ 0 → 0 < widthOf rows orientation → widthOf rows offset ≡ 0 → widthOf rows included ≡ 0 → widthOf rows bearing ≡ 0 → 0 < widthOf rows confidence
       → CodesAnswer (value orientation) 0 0 (value confidence) m → CodesAnswerOf rows value m
   oriented m l a b c d f g h =
       coded (value orientation) 0 0 m l (no-count a)
@@ -62,7 +62,7 @@ KindAnswer AltitudePoint n a b c d m = m ≡ 0
 KindAnswer AltitudeEllipsoid n a b c d m = CodesAnswer a 0 0 d m
 KindAnswer Arc n a b c d m = CodesAnswer 0 b c d m
 
-module _ (n : ℕ) (value : Field → ℕ) where
+module _ (n : ℕ) (value : MessageField → ℕ) where
   pub kind-codes : (k : Kind) (m : ℕ) → KindAnswer k (value count) (value orientation) (value offset) (value included) (value confidence) m → CodesAnswerOf (shapeRows k n) value m
   kind-codes Nothing m h = unmet (λ l. absurd (omega arith)) h
   kind-codes Point m h = rw h (plain (shapeRows Point n) value (omega arith) refl refl refl refl refl refl)
@@ -74,7 +74,7 @@ module _ (n : ℕ) (value : Field → ℕ) where
       (λ z. met (no-angles (shapeRows Polygon n) value (none orientation (omega arith) (omega arith)) (none offset (omega arith) (omega arith)) (none included (omega arith) (omega arith)) (none bearing (omega arith) (omega arith)))
       (met (no-confidence (shapeRows Polygon n) value (none confidence (omega arith) (omega arith))) z)) h)
     where
-      none : (f : Field) → 2 ≤ tag f → tag f < 22 → widthOf (shapeRows Polygon n) f ≡ 0
+      none : (f : MessageField) → 2 ≤ tag f → tag f < 22 → widthOf (shapeRows Polygon n) f ≡ 0
       none f a b = none-found n f a (λ l. absurd (omega arith))
   kind-codes AltitudePoint m h = rw h (plain (shapeRows AltitudePoint n) value (omega arith) refl refl refl refl refl refl)
   kind-codes AltitudeEllipsoid m h = oriented (shapeRows AltitudeEllipsoid n) value m (omega arith) refl (omega arith) refl refl refl (omega arith) h
@@ -83,11 +83,11 @@ module _ (n : ℕ) (value : Field → ℕ) where
       (λ p. record { orientations = unused (shapeRows Arc n) value orientation refl; offsets = λ _. p .1; includeds = λ _. p .2; bearings = unused (shapeRows Arc n) value bearing refl })
       (λ s. (omega arith, s .offsets (omega arith), s .includeds (omega arith))) (omega arith) h
 
--- and for the kind that cells say, by their numbers
-pub cells-codes : (cells : List ℕ) {kind k : Kind} {m : ℕ} → kind ≡ kindIn cells → kind ≡ k → KindAnswer k (cellAt cells 1) (cellAt cells 10) (cellAt cells 13) (cellAt cells 14) (cellAt cells 15) m → CodesAnswerOf (rowsIn cells) (valueIn cells) m
-cells-codes cells {k = k} {m = m} e f h =
-    subst (λ (k : Kind). CodesAnswerOf (shapeRows k (valueIn cells count)) (valueIn cells) m) (sym f ∙ e)
-    (kind-codes (valueIn cells count) (valueIn cells) k m (rw (same-cell cells 1 (omega arith), same-cell cells 10 (omega arith), same-cell cells 13 (omega arith), same-cell cells 14 (omega arith), same-cell cells 15 (omega arith)) at h))
+-- and for the kind that elements say, by their numbers
+pub elements-codes : (elements : List ℕ) {kind k : Kind} {m : ℕ} → kind ≡ arrayKind elements → kind ≡ k → KindAnswer k (elementAt elements 1) (elementAt elements 10) (elementAt elements 13) (elementAt elements 14) (elementAt elements 15) m → CodesAnswerOf (arrayRows elements) (valueIn elements) m
+elements-codes elements {k = k} {m = m} e f h =
+    subst (λ (k : Kind). CodesAnswerOf (shapeRows k (valueIn elements count)) (valueIn elements) m) (sym f ∙ e)
+    (kind-codes (valueIn elements count) (valueIn elements) k m (rw (same-element elements 1 (omega arith), same-element elements 10 (omega arith), same-element elements 13 (omega arith), same-element elements 14 (omega arith), same-element elements 15 (omega arith)) at h))
 
 -- ---- any record's answer
 
@@ -95,10 +95,10 @@ cells-codes cells {k = k} {m = m} e f h =
 pub next : {P : Type 0} {n m : ℕ} {A B : ℕ → Type 0} → (A m → B m) → Unless P n A m → Unless P n B m
 next others = unless-as (λ p. p) (λ p. p) others
 
-module _ {rows : List Row} {value : Field → ℕ} where
+module _ {rows : List Row} {value : MessageField → ℕ} where
   -- what 0 says of 2, 4, 5 and 6, whatever comes after them
-  pub passed : {A : ℕ → Type 0} → Unless (Listed rows) 2 (Unless (CountSound rows value) 4 (Unless (AnglesSound rows value) 5 (Unless (ConfidenceSound rows value) 6 A))) 0
-      → Listed rows × CountSound rows value × AnglesSound rows value × ConfidenceSound rows value × A 0
+  pub passed : {A : ℕ → Type 0} → Unless (TypeKnown rows) 2 (Unless (CountSound rows value) 4 (Unless (AnglesSound rows value) 5 (Unless (ConfidenceSound rows value) 6 A))) 0
+      → TypeKnown rows × CountSound rows value × AnglesSound rows value × ConfidenceSound rows value × A 0
   passed h =
       let a = when-done _ _ _ (λ e. absurd (omega arith)) h in
       let b = when-done _ _ _ (λ e. absurd (omega arith)) (a .1) in

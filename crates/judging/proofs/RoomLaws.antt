@@ -1,4 +1,4 @@
--- A record's answer, and the answer to it and the room for its message. Assumes nothing.
+-- A record's answer, and the answer to it and the room for its message.
 use Prim.Native.Nat.{ℕ, _≤_, _<_}
 use mathlib.Core.Path.{refl}
 use mathlib.Core.List.{List}
@@ -6,13 +6,13 @@ use native.Mathlib.Omega.{arith}
 use Rattle.ground.specs.Answers.{numberOf, unmet, met}
 use Rattle.ground.specs.declared.refusals.Refusal.{Refusal}
 use Rattle.ground.proofs.AnswerLaws.{not-0, when-done}
-use Rattle.layout.specs.Layout.{Field, Row}
+use Rattle.layout.specs.Layout.{MessageField, Row}
 use Rattle.layout.specs.Rows.{lengthOf}
 use Rattle.layout.specs.Demands.{WriteAnswer}
-use Rattle.judging.specs.Judging.{RecordAnswer, Taken}
+use Rattle.judging.specs.Judging.{RecordAnswer, RecordTaken}
 use Rattle.judging.proofs.DemandLaws.{next, passed}
 
-module _ {rows : List Row} {value : Field → ℕ} where
+module _ {rows : List Row} {value : MessageField → ℕ} where
   -- with room for the message the answer is the record's
   pub roomy : (m : ℕ) → RecordAnswer rows value m → WriteAnswer rows value (lengthOf rows) m
   roomy m = next (next (next (next (next (λ e. met (omega arith) e)))))
@@ -24,7 +24,7 @@ module _ {rows : List Row} {value : Field → ℕ} where
   pub refused : (room : ℕ) (why : Refusal) → RecordAnswer rows value (numberOf why) → WriteAnswer rows value room (numberOf why)
   refused room why = next (next (next (next (next (λ e. absurd (not-0 why e))))))
 
-  pub taken : RecordAnswer rows value 0 → Taken rows value
+  pub taken : RecordAnswer rows value 0 → RecordTaken rows value
   taken h =
       let p = passed h in
       let q = when-done _ _ _ (λ e. absurd (omega arith)) (p .4) in

@@ -1,4 +1,4 @@
-// What writing the record that a shape's cells say answers, the room aside: document 01, "Refusal numbers".
+// What writing the record that a shape's elements say answers, the room aside: document 01, "Refusal numbers".
 use ground::Outcome;
 use ground::Refusal;
 use layout::Kind;
@@ -6,14 +6,14 @@ ghost use mathlib.Core.Path.{_≡_};
 ghost use Prim.Native.Nat.{_≤_};
 ghost use lib.ListN.{length};
 ghost use Rattle.ground.specs.Answers.{outcomeNumber};
-ghost use Rattle.code_cells.specs.Shapes.{kindIn, rowsIn, valueIn};
+ghost use Rattle.code_arrays.specs.Shapes.{arrayKind, arrayRows, valueIn};
 ghost use Rattle.judging.specs.Judging.{RecordAnswer, CodesAnswerOf, CountAnswer};
 
 // 2, 4, 5, 6 and 7.
 pub fn outcome(codes: &[u32], kind: Kind) -> Outcome
     requires { ⌜ 61 ≤ length (now codes) ⌝ }
-    requires { ⌜ kind ≡ kindIn (now codes) ⌝ }
-    ensures { λ r. ⌜ RecordAnswer (rowsIn (now (codes .entry))) (valueIn (now (codes .entry))) (outcomeNumber r) ⌝ }
+    requires { ⌜ kind ≡ arrayKind (now codes) ⌝ }
+    ensures { λ r. ⌜ RecordAnswer (arrayRows (now (codes .entry))) (valueIn (now (codes .entry))) (outcomeNumber r) ⌝ }
 {
     if let Outcome::Refused(why) = codes_outcome(codes, kind) {
         return Outcome::Refused(why);
@@ -27,8 +27,8 @@ pub fn outcome(codes: &[u32], kind: Kind) -> Outcome
 // 2, 4, 5 and 6.
 fn codes_outcome(codes: &[u32], kind: Kind) -> Outcome
     requires { ⌜ 61 ≤ length (now codes) ⌝ }
-    requires { ⌜ kind ≡ kindIn (now codes) ⌝ }
-    ensures { λ r. ⌜ CodesAnswerOf (rowsIn (now (codes .entry))) (valueIn (now (codes .entry))) (outcomeNumber r) ⌝ }
+    requires { ⌜ kind ≡ arrayKind (now codes) ⌝ }
+    ensures { λ r. ⌜ CodesAnswerOf (arrayRows (now (codes .entry))) (valueIn (now (codes .entry))) (outcomeNumber r) ⌝ }
 {
     match kind {
         Kind::Nothing => Outcome::Refused(Refusal::UnknownType),

@@ -6,22 +6,22 @@ use native.Mathlib.Omega.{arith}
 use lib.ListN.{length}
 use Rattle.ground.specs.Answers.{Unless, met}
 use Rattle.ground.proofs.AnswerLaws.{when-done}
-use Rattle.layout.specs.Layout.{Field, Row}
+use Rattle.layout.specs.Layout.{MessageField, Row}
 use Rattle.layout.specs.Rows.{read, lengthOf}
-use Rattle.layout.specs.Demands.{Listed, CountSound, AnglesSound, ConfidenceSound, InFields, ReadAnswer, WriteAnswer}
+use Rattle.layout.specs.Demands.{TypeKnown, CountSound, AnglesSound, ConfidenceSound, InFields, ReadAnswer, WriteAnswer}
 
 -- a message that is read
 pub record Readable (rows : List Row) (s : List ℕ) : Type 0 where
   pub some : 0 < length s
-  pub listed : Listed rows
+  pub listed : TypeKnown rows
   pub counted : CountSound rows (read s rows)
   pub long : length s ≡ lengthOf rows
   pub angles : AnglesSound rows (read s rows)
   pub sure : ConfidenceSound rows (read s rows)
 
 -- a record that is written, room given
-pub record Sound (rows : List Row) (value : Field → ℕ) : Type 0 where
-  pub listed : Listed rows
+pub record Sound (rows : List Row) (value : MessageField → ℕ) : Type 0 where
+  pub listed : TypeKnown rows
   pub counted : CountSound rows value
   pub angles : AnglesSound rows value
   pub sure : ConfidenceSound rows value
@@ -44,7 +44,7 @@ module _ (rows : List Row) where
   pub read-done : (s : List ℕ) → Readable rows s → ReadAnswer rows s 0
   read-done s r = met (r .some) (met (r .listed) (met (r .counted) (met (r .long) (met (r .angles) (met (r .sure) refl)))))
 
-  pub sound : (value : Field → ℕ) (room : ℕ) → WriteAnswer rows value room 0 → Sound rows value × (lengthOf rows ≤ room)
+  pub sound : (value : MessageField → ℕ) (room : ℕ) → WriteAnswer rows value room 0 → Sound rows value × (lengthOf rows ≤ room)
   sound value room a =
       let b = next _ 2 _ (omega arith) a in
       let c = next _ 4 _ (omega arith) (b .1) in
@@ -54,5 +54,5 @@ module _ (rows : List Row) where
       let g = next _ 10 _ (omega arith) (f .1) in
       (record { listed = b .0; counted = c .0; angles = d .0; sure = e .0; fields = f .0 }, g .0)
 
-  pub write-done : (value : Field → ℕ) (room : ℕ) → Sound rows value → lengthOf rows ≤ room → WriteAnswer rows value room 0
+  pub write-done : (value : MessageField → ℕ) (room : ℕ) → Sound rows value → lengthOf rows ≤ room → WriteAnswer rows value room 0
   write-done value room s h = met (s .listed) (met (s .counted) (met (s .angles) (met (s .sure) (met (s .fields) (met h refl)))))

@@ -1,11 +1,11 @@
--- A field is told by its tag. Assumes nothing.
+-- A field is told by its tag.
 use Prim.Native.Nat.{ℕ, zero, suc, _+_, _-_, _*_, _/_, _%_, _<_}
 use mathlib.Core.Path.{_≡_, refl, ap, sym, _∙_}
 use mathlib.Core.List.{List, [], _∷_}
 use native.Mathlib.Omega.{arith}
 use lib.ListN.{getD, List·getD-eq-default}
 use Rattle.layout.specs.Layout.{
-  Field,
+  MessageField,
   typeNumber,
   count,
   south,
@@ -32,22 +32,22 @@ use Rattle.layout.specs.Layout.{
 use Rattle.layout.specs.Rows.{tag}
 
 -- the field of a position with remainder r, of the point i
-of-point : ℕ → ℕ → Field
+of-point : ℕ → ℕ → MessageField
 of-point zero i = south i
 of-point (suc zero) i = latitude i
 of-point (suc (suc r)) i = longitude i
 
-after-19 : (n : ℕ) → Field
+after-19 : (n : ℕ) → MessageField
 after-19 n = of-point (n % 3) (n / 3)
 
-others : List Field
+others : List MessageField
 others =
     typeNumber ∷ count ∷ depth ∷ altitude ∷ uncertainty ∷ semiMajor ∷ semiMinor ∷ orientation ∷ altitudeUncertainty ∷ confidence ∷ innerRadius ∷ offset ∷ included ∷ bearing ∷ horizontalSpeed ∷ down ∷ verticalSpeed ∷ speedUncertainty ∷ verticalUncertainty ∷ []
 
-untag : ℕ → Field
+untag : ℕ → MessageField
 untag n = getD others n (after-19 (n - 19))
 
-point-back : (r i : ℕ) (f : Field) → r < 3 → of-point r i ≡ f → untag (3 * i + (r + 19)) ≡ f
+point-back : (r i : ℕ) (f : MessageField) → r < 3 → of-point r i ≡ f → untag (3 * i + (r + 19)) ≡ f
 unfolding untag after-19 others
 point-back r i f h e =
     let n : 3 * i + (r + 19) - 19 ≡ 3 * i + r = omega arith in
@@ -55,7 +55,7 @@ point-back r i f h e =
     let d : (3 * i + r) / 3 ≡ i = omega arith in
     List·getD-eq-default others _ {n = 3 * i + (r + 19)} (omega arith) ∙ rw (n, m, d) e
 
-tag-back : (f : Field) → untag (tag f) ≡ f
+tag-back : (f : MessageField) → untag (tag f) ≡ f
 unfolding untag others of-point
 tag-back typeNumber = refl
 tag-back count = refl
@@ -80,5 +80,5 @@ tag-back (south i) = point-back 0 i (south i) (omega arith) refl
 tag-back (latitude i) = point-back 1 i (latitude i) (omega arith) refl
 tag-back (longitude i) = point-back 2 i (longitude i) (omega arith) refl
 
-pub tag-one : (f g : Field) → tag f ≡ tag g → f ≡ g
+pub tag-one : (f g : MessageField) → tag f ≡ tag g → f ≡ g
 tag-one f g e = sym (tag-back f) ∙ ap untag e ∙ tag-back g

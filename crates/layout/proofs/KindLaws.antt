@@ -1,5 +1,5 @@
 -- Every type's rows are tidy: one test, made once for each type; a polygon's for any count. And which widths depend on the
--- count: those of a polygon's points alone. Assumes nothing.
+-- count: those of a polygon's points alone.
 use Prim.Native.Nat.{ℕ, _+_, _*_, _≤_, _<_}
 use mathlib.Core.Path.{_≡_, refl, sym, _∙_}
 use mathlib.Core.Bool.{Bool, true, _&&_}
@@ -11,7 +11,7 @@ use Rattle.layout.specs.declared.shape.Kind.{Kind}
 use Rattle.layout.specs.declared.shape.Kind.the-variants as shape
 use Rattle.layout.specs.declared.velocity.VelocityKind.{VelocityKind}
 use Rattle.layout.specs.declared.velocity.VelocityKind.the-variants as velocity
-use Rattle.layout.specs.Layout.{Field, Row, shapeRows, velocityRows, typeOf}
+use Rattle.layout.specs.Layout.{MessageField, Row, shapeRows, velocityRows, typeOf}
 use Rattle.layout.specs.Rows.{tag, widthOf}
 use Rattle.layout.proofs.TidyLaws.{Tidy, both, tidy-by-test}
 use Rattle.layout.proofs.PolygonLaws.{point-row, point-found, none-found, polygon-tidy}
@@ -62,7 +62,7 @@ abbrev pointless : List Row → Bool
 pointless [] = true
 pointless (r ∷ rs) = ltb (tag (r .field)) 22 && pointless rs
 
-no-point : (rs : List Row) (f : Field) → pointless rs ≡ true → 22 ≤ tag f → widthOf rs f ≡ 0
+no-point : (rs : List Row) (f : MessageField) → pointless rs ≡ true → 22 ≤ tag f → widthOf rs f ≡ 0
 no-point [] f h l = refl
 no-point (r ∷ rs) f h l =
     let b = both _ _ h in
@@ -81,7 +81,7 @@ point-width shape.AltitudeEllipsoid n r i h = absurd (omega arith)
 point-width shape.Arc n r i h = absurd (omega arith)
 
 -- a point after the last has no bits
-pub no-point-width : (k : Kind) (n : ℕ) (f : Field) → 22 ≤ tag f → 3 * pointsOf k n + 22 ≤ tag f → widthOf (shapeRows k n) f ≡ 0
+pub no-point-width : (k : Kind) (n : ℕ) (f : MessageField) → 22 ≤ tag f → 3 * pointsOf k n + 22 ≤ tag f → widthOf (shapeRows k n) f ≡ 0
 no-point-width shape.Nothing n f l h = no-point (shapeRows shape.Nothing n) f refl l
 no-point-width shape.Point n f l h = no-point (shapeRows shape.Point n) f refl l
 no-point-width shape.Circle n f l h = no-point (shapeRows shape.Circle n) f refl l
@@ -92,7 +92,7 @@ no-point-width shape.AltitudeEllipsoid n f l h = no-point (shapeRows shape.Altit
 no-point-width shape.Arc n f l h = no-point (shapeRows shape.Arc n) f refl l
 
 -- what is no point's has the width that it has with no points
-pub fixed-width : (k : Kind) (n : ℕ) (f : Field) → 2 ≤ tag f → tag f < 22 → widthOf (shapeRows k n) f ≡ widthOf (shapeRows k 0) f
+pub fixed-width : (k : Kind) (n : ℕ) (f : MessageField) → 2 ≤ tag f → tag f < 22 → widthOf (shapeRows k n) f ≡ widthOf (shapeRows k 0) f
 fixed-width shape.Nothing n f l h = refl
 fixed-width shape.Point n f l h = refl
 fixed-width shape.Circle n f l h = refl

@@ -1,4 +1,4 @@
--- The octets of each shape's message, in their order, where its numbers are in their fields. Assumes nothing.
+-- The octets of each shape's message, in their order, where its numbers are in their fields.
 use Prim.Native.Nat.{ℕ, zero, suc, _+_, _-_, _*_, _%_, _≤_, _<_}
 use mathlib.Core.Path.{_≡_, ap, sym, _∙_}
 use mathlib.Core.List.{List, [], _∷_, _++_, append-assoc, append-nil}
@@ -9,7 +9,7 @@ use Rattle.octets.specs.Bits.{octets}
 use Rattle.octets.proofs.OctetLaws.{octets-one, octets-two, octets-three}
 use Rattle.layout.specs.declared.shape.Kind.the-variants.{Point, Circle, Ellipse, Polygon, AltitudePoint, AltitudeEllipsoid, Arc}
 use Rattle.layout.specs.Layout.{
-  Field,
+  MessageField,
   typeNumber,
   count,
   south,
@@ -55,7 +55,7 @@ octets-more n a (v ∷ vs) h =
 
 -- ---- the start that all but a polygon have
 
-module _ (value : Field → ℕ) where
+module _ (value : MessageField → ℕ) where
   -- S and N of a position, as one number
   abbrev pub latitudeNumber : ℕ → ℕ
   latitudeNumber i = value (south i) * 8388608 + value (latitude i)

@@ -1,4 +1,4 @@
--- A polygon's rows, for any count: they are tidy, and each field of each point is found at its place. Assumes nothing.
+-- A polygon's rows, for any count: they are tidy, and each field of each point is found at its place.
 use Prim.Native.Nat.{ℕ, zero, suc, _+_, _-_, _*_, _/_, _≤_, _<_}
 use mathlib.Core.Path.{_≡_, refl, ap, sym, subst, _∙_}
 use mathlib.Core.List.{List}
@@ -6,7 +6,7 @@ use native.Mathlib.Omega.{arith}
 use native.Mathlib.Nat.{add-zero, zero-add}
 use borrow.Author.Tests.{ne-eqb, eq-eqb}
 use Rattle.layout.specs.declared.shape.Kind.the-variants.{Polygon}
-use Rattle.layout.specs.Layout.{Field, Row, row, south, latitude, longitude, points, shapeRows}
+use Rattle.layout.specs.Layout.{MessageField, Row, row, south, latitude, longitude, points, shapeRows}
 use Rattle.layout.specs.Rows.{tag, widthOf, endOf, lengthOf}
 use Rattle.layout.proofs.RowLaws.{All, Sorted}
 use Rattle.layout.proofs.TidyLaws.{firstOf, Found, Tidy}
@@ -37,7 +37,7 @@ point-row (suc zero) j = row (latitude (suc j)) (8 + 48 * j + 1) 23
 point-row (suc (suc r)) j = row (longitude (suc j)) (8 + 48 * j + 24) 24
 
 -- the rows from point i on have no field of a lower point, and none of a point after the last
-outside : (f : Field) (i n : ℕ) → (3 * i + 22 ≤ tag f → 3 * (i + n) + 22 ≤ tag f) → (firstOf (points i n) f ≡ 0) × (widthOf (points i n) f ≡ 0)
+outside : (f : MessageField) (i n : ℕ) → (3 * i + 22 ≤ tag f → 3 * (i + n) + 22 ≤ tag f) → (firstOf (points i n) f ≡ 0) × (widthOf (points i n) f ≡ 0)
 outside f i zero h = (refl, refl)
 outside f i (suc n) h =
     let a : tag f ≡ 3 * suc i + 19 → ⊥ = λ e. let z = h (omega arith) in absurd (omega arith) in
@@ -90,7 +90,7 @@ module _ (n : ℕ) where
       record { first-found = rw (ne-eqb _ _ a, ne-eqb _ _ b) (found .0); width-found = rw (ne-eqb _ _ a, ne-eqb _ _ b) (found .1) }
 
   -- a field that is neither the type, nor the count, nor one of a point of the n
-  pub none-found : (f : Field) → 2 ≤ tag f → (22 ≤ tag f → 3 * n + 22 ≤ tag f) → widthOf (shapeRows Polygon n) f ≡ 0
+  pub none-found : (f : MessageField) → 2 ≤ tag f → (22 ≤ tag f → 3 * n + 22 ≤ tag f) → widthOf (shapeRows Polygon n) f ≡ 0
   none-found f l h =
       let a : tag f ≡ 0 → ⊥ = λ e. absurd (omega arith) in
       let b : tag f ≡ 1 → ⊥ = λ e. absurd (omega arith) in

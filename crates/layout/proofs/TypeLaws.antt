@@ -1,4 +1,4 @@
--- A number that is no type's is of no kind. Assumes nothing.
+-- A number that is no type's is of no kind.
 use Prim.Native.Nat.{ℕ, zero, suc}
 use mathlib.Core.Path.{_≡_, refl}
 use Rattle.layout.specs.declared.shape.Kind.the-variants as shape

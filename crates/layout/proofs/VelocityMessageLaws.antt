@@ -1,5 +1,5 @@
 -- The octets of each velocity's message, in their order, where its numbers are in their fields: two that hold the type, D
--- and the bearing, two of the horizontal speed, and one for each of the others. Assumes nothing.
+-- and the bearing, two of the horizontal speed, and one for each of the others.
 use Prim.Native.Nat.{ℕ, suc, _+_, _*_, _<_}
 use mathlib.Core.Path.{_≡_, ap, _∙_}
 use mathlib.Core.List.{List, [], _∷_, _++_}
@@ -7,14 +7,14 @@ use native.Mathlib.Omega.{arith}
 use Rattle.octets.specs.Bits.{octets}
 use Rattle.octets.proofs.OctetLaws.{octets-one, octets-two}
 use Rattle.layout.specs.declared.velocity.VelocityKind.the-variants.{Horizontal, HorizontalVertical, HorizontalUncertain, HorizontalVerticalUncertain}
-use Rattle.layout.specs.Layout.{Field, typeNumber, bearing, horizontalSpeed, down, verticalSpeed, speedUncertainty, verticalUncertainty, velocityRows}
+use Rattle.layout.specs.Layout.{MessageField, typeNumber, bearing, horizontalSpeed, down, verticalSpeed, speedUncertainty, verticalUncertainty, velocityRows}
 use Rattle.layout.specs.Rows.{message}
 
 -- one octet after octets that are known
 one-more : (n a v : ℕ) (l : List ℕ) → octets n a ≡ l → v < 256 → octets (suc n) (a * 256 + v) ≡ l ++ (v ∷ [])
 one-more n a v l e h = octets-one n a v h ∙ ap (λ (k : List ℕ). k ++ (v ∷ [])) e
 
-module _ (value : Field → ℕ) (fast : value horizontalSpeed < 65536) (first : ℕ) where
+module _ (value : MessageField → ℕ) (fast : value horizontalSpeed < 65536) (first : ℕ) where
   abbrev front : List ℕ
   front = octets 2 first ++ octets 2 (value horizontalSpeed)
 

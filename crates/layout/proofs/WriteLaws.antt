@@ -1,4 +1,4 @@
--- The promise of a writer, from its answer o and the number n of octets that it writes. Assumes nothing.
+-- The promise of a writer, from its answer o and the number n of octets that it writes.
 use Prim.Native.Nat.{ℕ, _<_, _≤_}
 use mathlib.Core.Path.{_≡_, refl}
 use mathlib.Core.List.{List, _++_}
@@ -8,11 +8,11 @@ use Rattle.ground.specs.Answers.{outcomeNumber, handed}
 use Rattle.ground.specs.declared.refusals.Outcome.{Outcome}
 use Rattle.ground.specs.declared.refusals.Outcome.the-variants.{Done, Refused}
 use Rattle.ground.proofs.AnswerLaws.{when-done}
-use Rattle.layout.specs.Layout.{Field, Row}
+use Rattle.layout.specs.Layout.{MessageField, Row}
 use Rattle.layout.specs.Rows.{lengthOf, message}
 use Rattle.layout.specs.Demands.{WriteAnswer, Writes}
 
-module _ (rows : List Row) (value : Field → ℕ) (before : List ℕ) (n : ℕ) where
+module _ (rows : List Row) (value : MessageField → ℕ) (before : List ℕ) (n : ℕ) where
   -- octets are written where the answer is 0
   pub done-answer : (o : Outcome) → WriteAnswer rows value (length before) (outcomeNumber o) → n ≡ handed o (lengthOf rows) 0 → 0 < n → WriteAnswer rows value (length before) 0
   done-answer Done a e h = a

@@ -1,55 +1,55 @@
--- Document 01, "Refusal numbers": what is demanded of a message and of a record, in its order. Assumes nothing.
+-- Document 01, "Refusal numbers": what is demanded of a message and of a record, in its order.
 use mathlib.Core.Path.{_≡_}
 use mathlib.Core.List.{List, _++_}
 use Prim.Native.Nat.{ℕ, _^_, _<_, _≤_}
 use lib.ListN.{length, drop}
 use Rattle.ground.specs.Answers.{outcomeNumber, handed, Unless, Else0}
 use Rattle.layout.specs.declared.Written.{Written}
-use Rattle.layout.specs.Layout.{Field, Row, count, orientation, offset, included, bearing, confidence}
+use Rattle.layout.specs.Layout.{MessageField, Row, count, orientation, offset, included, bearing, confidence}
 use Rattle.layout.specs.Rows.{widthOf, read, lengthOf, message}
 
 -- a type that is not listed has no rows
-abbrev pub Listed : List Row → Type 0
-Listed rows = 0 < lengthOf rows
+abbrev pub TypeKnown : List Row → Type 0
+TypeKnown rows = 0 < lengthOf rows
 
 -- The demands on codes cover only the fields that the type uses.
-abbrev pub Used : List Row → Field → Type 0
+abbrev pub Used : List Row → MessageField → Type 0
 Used rows f = 0 < widthOf rows f
 
 -- 4: polygon count outside 3..15
-pub record CountSound (rows : List Row) (value : Field → ℕ) : Type 0 where
+pub record CountSound (rows : List Row) (value : MessageField → ℕ) : Type 0 where
   pub least : Used rows count → 3 ≤ value count
   pub most : Used rows count → value count ≤ 15
 
 -- 5: orientation, offset or included code 180 or more; bearing code 360 or more
-pub record AnglesSound (rows : List Row) (value : Field → ℕ) : Type 0 where
+pub record AnglesSound (rows : List Row) (value : MessageField → ℕ) : Type 0 where
   pub orientations : Used rows orientation → value orientation < 180
   pub offsets : Used rows offset → value offset < 180
   pub includeds : Used rows included → value included < 180
   pub bearings : Used rows bearing → value bearing < 360
 
 -- 6: confidence code 101 or more
-pub record ConfidenceSound (rows : List Row) (value : Field → ℕ) : Type 0 where
+pub record ConfidenceSound (rows : List Row) (value : MessageField → ℕ) : Type 0 where
   pub confidences : Used rows confidence → value confidence < 101
 
 -- 7: a record's code outside its field; a field that the type doesn't use has no bits, and is zero
-pub record InFields (rows : List Row) (value : Field → ℕ) : Type 0 where
-  pub each : (f : Field) → value f < 2 ^ widthOf rows f
+pub record InFields (rows : List Row) (value : MessageField → ℕ) : Type 0 where
+  pub each : (f : MessageField) → value f < 2 ^ widthOf rows f
 
 -- READING octets s with these rows, by the number of its answer: 1, 2, 4, 3, 5, 6
 abbrev pub ReadAnswer : List Row → List ℕ → ℕ → Type 0
 ReadAnswer rows s =
     Unless (0 < length s) 1
-    (Unless (Listed rows) 2
+    (Unless (TypeKnown rows) 2
     (Unless (CountSound rows (read s rows)) 4
     (Unless (length s ≡ lengthOf rows) 3
     (Unless (AnglesSound rows (read s rows)) 5
     (Unless (ConfidenceSound rows (read s rows)) 6 Else0)))))
 
 -- WRITING a record of these numbers into a buffer of `room` octets: 2, 4, 5, 6, 7, 10
-abbrev pub WriteAnswer : List Row → (Field → ℕ) → ℕ → ℕ → Type 0
+abbrev pub WriteAnswer : List Row → (MessageField → ℕ) → ℕ → ℕ → Type 0
 WriteAnswer rows value room =
-    Unless (Listed rows) 2
+    Unless (TypeKnown rows) 2
     (Unless (CountSound rows value) 4
     (Unless (AnglesSound rows value) 5
     (Unless (ConfidenceSound rows value) 6
@@ -62,7 +62,7 @@ CodesAnswer orientation′ offset′ included′ confidence′ =
     Unless ((orientation′ < 180) × (offset′ < 180) × (included′ < 180)) 5 (Unless (confidence′ < 101) 6 Else0)
 
 -- What writing leaves: on 0 the message in the first octets and the others as they were; on a refusal the buffer as it was.
-pub record Writes (rows : List Row) (value : Field → ℕ) (before after : List ℕ) (r : Written) : Type 0 where
+pub record Writes (rows : List Row) (value : MessageField → ℕ) (before after : List ℕ) (r : Written) : Type 0 where
   pub answer : WriteAnswer rows value (length before) (outcomeNumber (r .outcome))
   pub written : r .length ≡ handed (r .outcome) (lengthOf rows) 0
   pub buffer : after ≡ handed (r .outcome) (message rows value ++ drop (lengthOf rows) before) before

@@ -1,5 +1,5 @@
 -- THE TABLE of document 01, "Octet layouts": where each field of each type stands, its first bit and its width. Bit 0 is
--- the high bit of octet 1. A bit that no row has is spare. Assumes nothing.
+-- the high bit of octet 1. A bit that no row has is spare.
 use mathlib.Core.List.{List, [], _∷_, _++_}
 use Prim.Native.Nat.{ℕ, zero, suc, _+_, _*_}
 use Rattle.layout.specs.declared.shape.Kind.{Kind}
@@ -7,38 +7,38 @@ use Rattle.layout.specs.declared.shape.Kind.the-variants as shape
 use Rattle.layout.specs.declared.velocity.VelocityKind.{VelocityKind}
 use Rattle.layout.specs.declared.velocity.VelocityKind.the-variants as velocity
 
-pub data Field : Type 0 where
-  typeNumber count : Field
+pub data MessageField : Type 0 where
+  typeNumber count : MessageField
   -- of the single point, 0, or of a polygon's points, from 1
-  south latitude longitude : ℕ → Field
-  depth altitude uncertainty semiMajor semiMinor orientation altitudeUncertainty confidence : Field
-  innerRadius offset included : Field
-  bearing horizontalSpeed down verticalSpeed speedUncertainty verticalUncertainty : Field
+  south latitude longitude : ℕ → MessageField
+  depth altitude uncertainty semiMajor semiMinor orientation altitudeUncertainty confidence : MessageField
+  innerRadius offset included : MessageField
+  bearing horizontalSpeed down verticalSpeed speedUncertainty verticalUncertainty : MessageField
 
 pub record Row : Type 0 where
-  pub field : Field
+  pub field : MessageField
   pub first : ℕ
   pub width : ℕ
 
-abbrev pub row : Field → ℕ → ℕ → Row
+abbrev pub row : MessageField → ℕ → ℕ → Row
 row f first width = record { field = f; first = first; width = width }
 
 -- S and latitude, then longitude: six octets
-abbrev pub position : ℕ → ℕ → List Row
-position i first = row (south i) first 1 ∷ row (latitude i) (first + 1) 23 ∷ row (longitude i) (first + 24) 24 ∷ []
+abbrev pub positionRows : ℕ → ℕ → List Row
+positionRows i first = row (south i) first 1 ∷ row (latitude i) (first + 1) 23 ∷ row (longitude i) (first + 24) 24 ∷ []
 
 -- octets 1 to 7 of every shape but a polygon
 abbrev pub start : List Row
-start = row typeNumber 0 4 ∷ position 0 8
+start = row typeNumber 0 4 ∷ positionRows 0 8
 
 -- D and altitude, octets 8 and 9
-abbrev pub level : List Row
-level = row depth 56 1 ∷ row altitude 57 15 ∷ []
+abbrev pub altitudeRows : List Row
+altitudeRows = row depth 56 1 ∷ row altitude 57 15 ∷ []
 
 -- n points of a polygon, after the first i
 abbrev pub points : ℕ → ℕ → List Row
 points i zero = []
-points i (suc n) = position (suc i) (8 + 48 * i) ++ points (suc i) n
+points i (suc n) = positionRows (suc i) (8 + 48 * i) ++ points (suc i) n
 
 -- a shape's rows; n is a polygon's count
 abbrev pub shapeRows : Kind → ℕ → List Row
@@ -47,9 +47,9 @@ shapeRows shape.Point n = start
 shapeRows shape.Circle n = start ++ row uncertainty 57 7 ∷ []
 shapeRows shape.Ellipse n = start ++ row semiMajor 57 7 ∷ row semiMinor 65 7 ∷ row orientation 72 8 ∷ row confidence 81 7 ∷ []
 shapeRows shape.Polygon n = row typeNumber 0 4 ∷ row count 4 4 ∷ points 0 n
-shapeRows shape.AltitudePoint n = start ++ level
+shapeRows shape.AltitudePoint n = start ++ altitudeRows
 shapeRows shape.AltitudeEllipsoid n =
-    start ++ level ++ row semiMajor 73 7 ∷ row semiMinor 81 7 ∷ row orientation 88 8 ∷ row altitudeUncertainty 97 7 ∷ row confidence 105 7 ∷ []
+    start ++ altitudeRows ++ row semiMajor 73 7 ∷ row semiMinor 81 7 ∷ row orientation 88 8 ∷ row altitudeUncertainty 97 7 ∷ row confidence 105 7 ∷ []
 shapeRows shape.Arc n =
     start ++ row innerRadius 56 16 ∷ row uncertainty 73 7 ∷ row offset 80 8 ∷ row included 88 8 ∷ row confidence 97 7 ∷ []
 

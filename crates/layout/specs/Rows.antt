@@ -1,11 +1,11 @@
--- What follows from any rows of the layout table: lengths, what reading means, what writing means, spare bits. Assumes nothing.
+-- What follows from any rows of the layout table: lengths, what reading means, what writing means, spare bits.
 use mathlib.Core.Bool.{cond}
 use mathlib.Core.List.{List, [], _∷_}
 use Prim.Native.Nat.{ℕ, _+_, _-_, _*_, _/_, _^_}
 use lib.Dec.{eqb}
 use Rattle.octets.specs.Bits.{bits, octets}
 use Rattle.layout.specs.Layout.{
-  Field,
+  MessageField,
   typeNumber,
   count,
   south,
@@ -32,7 +32,7 @@ use Rattle.layout.specs.Layout.{
 }
 
 -- a number for each field, to tell them apart
-abbrev pub tag : Field → ℕ
+abbrev pub tag : MessageField → ℕ
 tag typeNumber = 0
 tag count = 1
 tag depth = 2
@@ -57,12 +57,12 @@ tag (latitude i) = 3 * i + 20
 tag (longitude i) = 3 * i + 21
 
 -- a field's width, 0 where no row has it
-abbrev pub widthOf : List Row → Field → ℕ
+abbrev pub widthOf : List Row → MessageField → ℕ
 widthOf [] f = 0
 widthOf (r ∷ rs) f = cond (eqb (tag f) (tag (r .field))) (r .width) (widthOf rs f)
 
 -- READING. The number in a field's bits, 0 where no row has it.
-abbrev pub read : List ℕ → List Row → Field → ℕ
+abbrev pub read : List ℕ → List Row → MessageField → ℕ
 read s [] f = 0
 read s (r ∷ rs) f = cond (eqb (tag f) (tag (r .field))) (bits s (r .first) (r .width)) (read s rs f)
 
@@ -83,7 +83,7 @@ packed number so-far at (r ∷ rs) =
     packed number (so-far * 2 ^ (r .first + r .width - at) + number r) (r .first + r .width) rs
 
 -- the message of a field's numbers
-abbrev pub message : List Row → (Field → ℕ) → List ℕ
+abbrev pub message : List Row → (MessageField → ℕ) → List ℕ
 message rows value = octets (lengthOf rows) (packed (λ r. value (r .field)) 0 0 rows)
 
 -- a message with its spare bits zero: what its own rows hold, and nothing else

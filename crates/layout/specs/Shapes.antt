@@ -1,4 +1,4 @@
--- A shape's record against the layout table. Assumes nothing.
+-- A shape's record against the layout table.
 use mathlib.Core.Path.{_≡_}
 use mathlib.Core.Bool.{false}
 use mathlib.Core.List.{List, [], _∷_, _++_}
@@ -16,7 +16,7 @@ use Rattle.layout.specs.declared.shape.Kind.the-variants.{Nothing, Point
 use Rattle.layout.specs.declared.shape.Shape.{Shape}
 use Rattle.layout.specs.declared.shape.ShapeRead.{ShapeRead}
 use Rattle.layout.specs.Layout.{
-  Field,
+  MessageField,
   typeNumber,
   count,
   south,
@@ -57,13 +57,13 @@ upto (suc n) f = upto n f ++ (f n ∷ [])
 
 -- ---- a record from the numbers of its fields
 
-abbrev pub latitudeOf : (Field → ℕ) → ℕ → LatitudeCode
+abbrev pub latitudeOf : (MessageField → ℕ) → ℕ → LatitudeCode
 latitudeOf value i = record { 0 = signOf (value (south i)); 1 = value (latitude i) }
 
-abbrev pub longitudeOf : (Field → ℕ) → ℕ → LongitudeCode
+abbrev pub longitudeOf : (MessageField → ℕ) → ℕ → LongitudeCode
 longitudeOf value i = record { 0 = fromComplement (value (longitude i)) }
 
-abbrev pub shapeOf : Kind → (Field → ℕ) → Shape
+abbrev pub shapeOf : Kind → (MessageField → ℕ) → Shape
 shapeOf k value = record {
   kind = k;
   latitude = latitudeOf value 0;
@@ -95,7 +95,7 @@ zeroLatitude = record { 0 = false; 1 = 0 }
 abbrev pub zeroLongitude : LongitudeCode
 zeroLongitude = record { 0 = pos 0 }
 
-abbrev pub valueOf : Shape → Field → ℕ
+abbrev pub valueOf : Shape → MessageField → ℕ
 valueOf x typeNumber = typeOf (x .kind)
 valueOf x count = x .count
 valueOf x (south zero) = bitOf (x .latitude .0)

@@ -1,4 +1,4 @@
--- A velocity's record against the layout table. Assumes nothing.
+-- A velocity's record against the layout table.
 use mathlib.Core.Path.{_≡_}
 use mathlib.Core.List.{List, [], _∷_}
 use Prim.Native.Nat.{ℕ}
@@ -12,7 +12,7 @@ use Rattle.layout.specs.declared.velocity.VelocityKind.the-variants.{Not
 use Rattle.layout.specs.declared.velocity.Velocity.{Velocity}
 use Rattle.layout.specs.declared.velocity.VelocityRead.{VelocityRead}
 use Rattle.layout.specs.Layout.{
-  Field,
+  MessageField,
   typeNumber,
   count,
   south,
@@ -48,7 +48,7 @@ velocityKindOf n = getD (Horizontal ∷ HorizontalVertical ∷ HorizontalUncerta
 
 -- ---- a record from the numbers of its fields, and the numbers of a record's fields
 
-abbrev pub velocityOf : VelocityKind → (Field → ℕ) → Velocity
+abbrev pub velocityOf : VelocityKind → (MessageField → ℕ) → Velocity
 velocityOf k value = record {
   kind = k;
   bearing = record { 0 = value bearing };
@@ -61,7 +61,7 @@ velocityOf k value = record {
 abbrev pub blankVelocity : VelocityKind → Velocity
 blankVelocity k = velocityOf k (λ f. 0)
 
-abbrev pub velocityValueOf : Velocity → Field → ℕ
+abbrev pub velocityValueOf : Velocity → MessageField → ℕ
 velocityValueOf x typeNumber = velocityTypeOf (x .kind)
 velocityValueOf x bearing = x .bearing .0
 velocityValueOf x horizontalSpeed = x .«horizontal_speed» .0

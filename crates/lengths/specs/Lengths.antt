@@ -1,4 +1,4 @@
--- Altitude and inner radius, in millimetres. Assumes nothing.
+-- Altitude and inner radius, in millimetres.
 use Prim.Native.Nat.{ℕ, _<_}
 use lib.IntN.{ℤ}
 use Rattle.ground.specs.Answers.{numberOf, Said, done, refused, Answer}

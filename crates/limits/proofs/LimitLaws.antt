@@ -1,5 +1,5 @@
 -- Numbers are in their fields just where those of single fields are at most the largest, and the points' within theirs.
--- Assumes nothing.
+--
 use Prim.Native.Nat.{ℕ, zero, suc, _+_, _-_, _*_, _/_, _%_, _^_, _≤_, _<_}
 use mathlib.Core.Path.{_≡_, refl, sym, ap, _∙_}
 use mathlib.Core.Bool.{Bool, true, false}
@@ -15,7 +15,7 @@ use Rattle.octets.specs.Codes.{complement}
 use Rattle.layout.specs.declared.shape.Kind.{Kind}
 use Rattle.layout.specs.declared.shape.Kind.the-variants.{Nothing, Point, Circle, Ellipse, Polygon, AltitudePoint, AltitudeEllipsoid, Arc}
 use Rattle.layout.specs.Layout.{
-  Field,
+  MessageField,
   typeNumber,
   count,
   south,
@@ -45,10 +45,10 @@ use Rattle.layout.specs.Demands.{InFields}
 use Rattle.layout.proofs.PolygonLaws.{point-row}
 use Rattle.layout.proofs.KindLaws.{pointsOf, point-width, no-point-width, fixed-width}
 use Rattle.layout.proofs.MessageLaws.{Position}
-use Rattle.cells.specs.Codes.{cellAt, fromBits}
-use Rattle.code_cells.specs.Shapes.{valueIn, kindIn}
-use Rattle.limits.specs.Limits.{CellsInFields, singleFields, numbersIn, largestOf, Within, NoneFrom, PointsWithin}
-use Rattle.code_cells.proofs.CellLaws.{same-cell, no-cell, south-cell, latitude-cell, longitude-cell}
+use Rattle.code_arrays.specs.CodeNumbers.{elementAt, fromBits}
+use Rattle.code_arrays.specs.Shapes.{valueIn, arrayKind}
+use Rattle.limits.specs.Limits.{ElementsInFields, singleFields, numbersIn, largestOf, Within, NoCodesFrom, PointsWithin}
+use Rattle.code_arrays.proofs.ArrayLaws.{same-element, no-element, south-element, latitude-element, longitude-element}
 
 -- ---- widths that don't depend on the count
 
@@ -100,27 +100,27 @@ no-bits k n (suc zero) i h = no-point-width k n (latitude (suc i)) (omega arith)
 no-bits k n (suc (suc r)) i h = no-point-width k n (longitude (suc i)) (omega arith) (omega arith)
 
 -- what holds of each of these fields holds at each place of the arrays
-abbrev Each : (Field → Type 0) → List Field → Type 0
+abbrev Each : (MessageField → Type 0) → List MessageField → Type 0
 Each P [] = Unit {0}
 Each P (f ∷ fs) = P f × Each P fs
 
-at-each : (v w : Field → ℕ) (fs : List Field) → Each (λ f. v f < 2 ^ w f) fs → (i : ℕ) → i < length fs → getD (map v fs) i 0 ≤ getD (map (λ f. 2 ^ w f - 1) fs) i 0
+at-each : (v w : MessageField → ℕ) (fs : List MessageField) → Each (λ f. v f < 2 ^ w f) fs → (i : ℕ) → i < length fs → getD (map v fs) i 0 ≤ getD (map (λ f. 2 ^ w f - 1) fs) i 0
 at-each v w [] a i h = absurd (omega arith)
 at-each v w (f ∷ fs) a zero h = le-ones (w f) (a .0)
 at-each v w (f ∷ fs) a (suc i) h = at-each v w fs (a .1) i (omega arith)
 
 -- the fields of velocities
-abbrev velocityFields : List Field
+abbrev velocityFields : List MessageField
 velocityFields = bearing ∷ horizontalSpeed ∷ down ∷ verticalSpeed ∷ speedUncertainty ∷ verticalUncertainty ∷ []
 
 -- ---- any numbers
 
-module _ (k : Kind) (n : ℕ) (value : Field → ℕ) where
+module _ (k : Kind) (n : ℕ) (value : MessageField → ℕ) where
   module _ (h : InFields (shapeRows k n) value) where
     counted : value count < 2 ^ widthOf (shapeRows k 0) count
     counted = rw (count-width k n) at (h .each count)
 
-    fixed : (f : Field) → 2 ≤ tag f → tag f < 22 → value f < 2 ^ widthOf (shapeRows k 0) f
+    fixed : (f : MessageField) → 2 ≤ tag f → tag f < 22 → value f < 2 ^ widthOf (shapeRows k 0) f
     fixed f a b = rw (fixed-width k n f a b) at (h .each f)
 
     pub singles-within : Within (map value singleFields) (largestOf k)
@@ -192,14 +192,14 @@ module _ (k : Kind) (n : ℕ) (value : Field → ℕ) where
     pub count-narrow : value count ≤ 15
     count-narrow = most k (value count) count-back
 
-    fixed-back : (f : Field) → 2 ≤ tag f → tag f < 22 → value f ≤ 2 ^ widthOf (shapeRows k 0) f - 1 → value f < 2 ^ widthOf (shapeRows k n) f
+    fixed-back : (f : MessageField) → 2 ≤ tag f → tag f < 22 → value f ≤ 2 ^ widthOf (shapeRows k 0) f - 1 → value f < 2 ^ widthOf (shapeRows k n) f
     fixed-back f a b l = rw (fixed-width k n f a b) (lt-of-le-ones (widthOf (shapeRows k 0) f) l)
 
     module _
         (points : (r i : ℕ) → i < pointsOf k n → value (point-row r i .field) < 2 ^ point-row r i .width)
         (none : (r i : ℕ) → pointsOf k n ≤ i → value (point-row r i .field) ≡ 0)
         (still : Each (λ f. value f ≡ 0) velocityFields) where
-      zero-back : (f : Field) → value f ≡ 0 → value f < 2 ^ widthOf (shapeRows k n) f
+      zero-back : (f : MessageField) → value f ≡ 0 → value f < 2 ^ widthOf (shapeRows k n) f
       zero-back f e = rw e (pow-pos _)
 
       point-back : (r i : ℕ) → value (point-row r i .field) < 2 ^ widthOf (shapeRows k n) (point-row r i .field)
@@ -209,7 +209,7 @@ module _ (k : Kind) (n : ℕ) (value : Field → ℕ) where
           by true e = rw (point-width k n r i (ltb-true _ _ e)) (points r i (ltb-true _ _ e))
           by false e = zero-back (point-row r i .field) (none r i (ltb-false _ _ e))
 
-      each : (f : Field) → value f < 2 ^ widthOf (shapeRows k n) f
+      each : (f : MessageField) → value f < 2 ^ widthOf (shapeRows k n) f
       each typeNumber = rw (type-width k n) (lt-of-le-ones (widthOf (shapeRows k 0) typeNumber) (h 0 (omega arith)))
       each count = rw (count-width k n) count-back
       each (south zero) = fixed-back (south 0) (omega arith) (omega arith) (h 2 (omega arith))
@@ -239,7 +239,7 @@ module _ (k : Kind) (n : ℕ) (value : Field → ℕ) where
       pub in-fields : InFields (shapeRows k n) value
       in-fields = record { each = each }
 
--- ---- a longitude's cell
+-- ---- a longitude's element
 
 positive : (n : ℕ) → complement (pos n) ≡ 0 → n ≡ 0
 positive n = by (ltb n 8388608) refl
@@ -255,7 +255,7 @@ negative n = by (ltb n 8388608) refl
     by true e h = absurd (omega (arith, ltb-true n 8388608 e, rw e at h))
     by false e h = absurd (omega (arith, rw e at h))
 
--- the one cell whose number of 24 bits is zero
+-- the one element whose number of 24 bits is zero
 none-turned : (n : ℕ) → complement (fromBits n) ≡ 0 → n ≡ 0
 none-turned n = by (ltb n 2147483648) refl
   where
@@ -263,53 +263,53 @@ none-turned n = by (ltb n 2147483648) refl
     by true e h = positive n (rw e at h)
     by false e h = absurd (negative (4294967295 - n) (rw e at h))
 
--- ---- the numbers in cells
+-- ---- the numbers in elements
 
-module _ (cells : List ℕ) where
-  -- a point's cells are zero where its numbers are
-  cell-none : (r i : ℕ) → r < 3 → i < 15 → valueIn cells (point-row r i .field) ≡ 0 → cellAt cells (16 + 3 * i + r) ≡ 0
-  cell-none zero i h l e = rw (add-zero (16 + 3 * i)) (sym (south-cell cells i l) ∙ e)
-  cell-none (suc zero) i h l e = sym (latitude-cell cells i l) ∙ e
-  cell-none (suc (suc zero)) i h l e = none-turned _ (sym (longitude-cell cells i l) ∙ e)
-  cell-none (suc (suc (suc r))) i h l e = absurd (omega arith)
+module _ (elements : List ℕ) where
+  -- a point's elements are zero where its numbers are
+  element-none : (r i : ℕ) → r < 3 → i < 15 → valueIn elements (point-row r i .field) ≡ 0 → elementAt elements (16 + 3 * i + r) ≡ 0
+  element-none zero i h l e = rw (add-zero (16 + 3 * i)) (sym (south-element elements i l) ∙ e)
+  element-none (suc zero) i h l e = sym (latitude-element elements i l) ∙ e
+  element-none (suc (suc zero)) i h l e = none-turned _ (sym (longitude-element elements i l) ∙ e)
+  element-none (suc (suc (suc r))) i h l e = absurd (omega arith)
 
-  module _ (h : CellsInFields cells) where
-    points-used : pointsOf (kindIn cells) (valueIn cells count) ≡ valueIn cells count
-    points-used = used (kindIn cells) (valueIn cells count) (counted (kindIn cells) (valueIn cells count) (valueIn cells) h)
+  module _ (h : ElementsInFields elements) where
+    points-used : pointsOf (arrayKind elements) (valueIn elements count) ≡ valueIn elements count
+    points-used = used (arrayKind elements) (valueIn elements count) (counted (arrayKind elements) (valueIn elements count) (valueIn elements) h)
 
-    none-from : NoneFrom cells (16 + 3 * valueIn cells count)
+    none-from : NoCodesFrom elements (16 + 3 * valueIn elements count)
     none-from at l m =
         let e : 16 + 3 * ((at - 16) / 3) + (at - 16) % 3 ≡ at = omega arith in
-        rw e at (cell-none ((at - 16) % 3) ((at - 16) / 3) (omega arith) (omega arith) (no-number (kindIn cells) (valueIn cells count) (valueIn cells) h ((at - 16) % 3) ((at - 16) / 3) (omega (arith, points-used))))
+        rw e at (element-none ((at - 16) % 3) ((at - 16) / 3) (omega arith) (omega arith) (no-number (arrayKind elements) (valueIn elements count) (valueIn elements) h ((at - 16) % 3) ((at - 16) / 3) (omega (arith, points-used))))
 
-    pub cells-points : PointsWithin cells (valueIn cells count)
-    cells-points = record {
-      used = λ i l. let p = points-within (kindIn cells) (valueIn cells count) (valueIn cells) h i (omega (arith, points-used)) in record { sign = p .sign; size = p .size; turn = p .turn };
+    pub elements-points : PointsWithin elements (valueIn elements count)
+    elements-points = record {
+      used = λ i l. let p = points-within (arrayKind elements) (valueIn elements count) (valueIn elements) h i (omega (arith, points-used)) in record { sign = p .sign; size = p .size; turn = p .turn };
       none = none-from;
     }
 
-  module _ (h : Within (numbersIn cells) (largestOf (kindIn cells))) (p : PointsWithin cells (valueIn cells count)) where
-    none-at : (i : ℕ) → 16 + 3 * valueIn cells count ≤ i → cellAt (take 61 cells) i ≡ 0
+  module _ (h : Within (numbersIn elements) (largestOf (arrayKind elements))) (p : PointsWithin elements (valueIn elements count)) where
+    none-at : (i : ℕ) → 16 + 3 * valueIn elements count ≤ i → elementAt (take 61 elements) i ≡ 0
     none-at i l = by (ltb i 61) refl
       where
-        by : (t : Bool) → ltb i 61 ≡ t → cellAt (take 61 cells) i ≡ 0
-        by true e = sym (same-cell cells i (ltb-true _ _ e)) ∙ p .none i l (ltb-true _ _ e)
-        by false e = sym (no-cell cells i (ltb-false _ _ e))
+        by : (t : Bool) → ltb i 61 ≡ t → elementAt (take 61 elements) i ≡ 0
+        by true e = sym (same-element elements i (ltb-true _ _ e)) ∙ p .none i l (ltb-true _ _ e)
+        by false e = sym (no-element elements i (ltb-false _ _ e))
 
-    used-back : pointsOf (kindIn cells) (valueIn cells count) ≡ valueIn cells count
-    used-back = used (kindIn cells) (valueIn cells count) (count-back (kindIn cells) (valueIn cells count) (valueIn cells) h)
+    used-back : pointsOf (arrayKind elements) (valueIn elements count) ≡ valueIn elements count
+    used-back = used (arrayKind elements) (valueIn elements count) (count-back (arrayKind elements) (valueIn elements count) (valueIn elements) h)
 
-    point-at : (r i : ℕ) → i < valueIn cells count → valueIn cells (point-row r i .field) < 2 ^ point-row r i .width
+    point-at : (r i : ℕ) → i < valueIn elements count → valueIn elements (point-row r i .field) < 2 ^ point-row r i .width
     point-at zero i l = p .used i l .sign
     point-at (suc zero) i l = p .used i l .size
     point-at (suc (suc r)) i l = p .used i l .turn
 
-    no-point-at : (r i : ℕ) → valueIn cells count ≤ i → valueIn cells (point-row r i .field) ≡ 0
+    no-point-at : (r i : ℕ) → valueIn elements count ≤ i → valueIn elements (point-row r i .field) ≡ 0
     no-point-at zero i l = none-at (16 + 3 * i) (omega arith)
     no-point-at (suc zero) i l = none-at (17 + 3 * i) (omega arith)
     no-point-at (suc (suc r)) i l = ap (λ (n : ℕ). complement (fromBits n)) (none-at (18 + 3 * i) (omega arith))
 
-    pub cells-in-fields : CellsInFields cells
-    cells-in-fields =
-        in-fields (kindIn cells) (valueIn cells count) (valueIn cells) h (λ r i l. point-at r i (omega (arith, used-back))) (λ r i l. no-point-at r i (omega (arith, used-back)))
+    pub elements-in-fields : ElementsInFields elements
+    elements-in-fields =
+        in-fields (arrayKind elements) (valueIn elements count) (valueIn elements) h (λ r i l. point-at r i (omega (arith, used-back))) (λ r i l. no-point-at r i (omega (arith, used-back)))
         (refl, (refl, (refl, (refl, (refl, (refl, tt))))))

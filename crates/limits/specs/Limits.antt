@@ -1,11 +1,11 @@
--- The widths of a shape's fields, from the layout table, and the numbers in cells that they hold. Assumes nothing.
+-- The widths of a shape's fields, from the layout table, and the numbers in elements that they hold.
 use mathlib.Core.Path.{_≡_}
 use mathlib.Core.List.{List, [], _∷_, map}
 use Prim.Native.Nat.{ℕ, suc, _+_, _-_, _*_, _^_, _≤_, _<_}
 use lib.ListN.{getD}
 use Rattle.layout.specs.declared.shape.Kind.{Kind}
 use Rattle.layout.specs.Layout.{
-  Field,
+  MessageField,
   typeNumber,
   count,
   south,
@@ -26,19 +26,19 @@ use Rattle.layout.specs.Layout.{
 }
 use Rattle.layout.specs.Rows.{widthOf}
 use Rattle.layout.specs.Demands.{InFields}
-use Rattle.cells.specs.Codes.{cellAt}
-use Rattle.code_cells.specs.Shapes.{valueIn, rowsIn}
+use Rattle.code_arrays.specs.CodeNumbers.{elementAt}
+use Rattle.code_arrays.specs.Shapes.{valueIn, arrayRows}
 
-abbrev pub CellsInFields : List ℕ → Type 0
-CellsInFields cells = InFields (rowsIn cells) (valueIn cells)
+abbrev pub ElementsInFields : List ℕ → Type 0
+ElementsInFields elements = InFields (arrayRows elements) (valueIn elements)
 
--- the fields that are no polygon point's, in the order of the cells
-abbrev pub singleFields : List Field
+-- the fields that are no polygon point's, in the order of the elements
+abbrev pub singleFields : List MessageField
 singleFields =
     typeNumber ∷ count ∷ south 0 ∷ latitude 0 ∷ longitude 0 ∷ depth ∷ altitude ∷ uncertainty ∷ semiMajor ∷ semiMinor ∷ orientation ∷ altitudeUncertainty ∷ innerRadius ∷ offset ∷ included ∷ confidence ∷ []
 
 abbrev pub numbersIn : List ℕ → List ℕ
-numbersIn cells = map (valueIn cells) singleFields
+numbersIn elements = map (valueIn elements) singleFields
 
 -- the largest number that so many bits hold
 abbrev pub largestOf : Kind → List ℕ
@@ -54,19 +54,19 @@ abbrev pub Within : List ℕ → List ℕ → Type 0
 Within numbers largest = (i : ℕ) → i < 16 → getD numbers i 0 ≤ getD largest i 0
 
 -- the numbers of a point against 1, 23 and 24 bits
-pub record PointWithin (cells : List ℕ) (i : ℕ) : Type 0 where
-  pub sign : valueIn cells (south (suc i)) < 2
-  pub size : valueIn cells (latitude (suc i)) < 8388608
-  pub turn : valueIn cells (longitude (suc i)) < 16777216
+pub record PointWithin (elements : List ℕ) (i : ℕ) : Type 0 where
+  pub sign : valueIn elements (south (suc i)) < 2
+  pub size : valueIn elements (latitude (suc i)) < 8388608
+  pub turn : valueIn elements (longitude (suc i)) < 16777216
 
 abbrev pub UsedWithin : List ℕ → ℕ → Type 0
-UsedWithin cells n = (i : ℕ) → i < n → PointWithin cells i
+UsedWithin elements n = (i : ℕ) → i < n → PointWithin elements i
 
--- no number from that cell on
-abbrev pub NoneFrom : List ℕ → ℕ → Type 0
-NoneFrom cells first = (at : ℕ) → first ≤ at → at < 61 → cellAt cells at ≡ 0
+-- no number from that element on
+abbrev pub NoCodesFrom : List ℕ → ℕ → Type 0
+NoCodesFrom elements first = (at : ℕ) → first ≤ at → at < 61 → elementAt elements at ≡ 0
 
 -- of the fifteen points the first n are used; the others are zero
-pub record PointsWithin (cells : List ℕ) (n : ℕ) : Type 0 where
-  pub used : UsedWithin cells n
-  pub none : NoneFrom cells (16 + 3 * n)
+pub record PointsWithin (elements : List ℕ) (n : ℕ) : Type 0 where
+  pub used : UsedWithin elements n
+  pub none : NoCodesFrom elements (16 + 3 * n)

@@ -1,4 +1,4 @@
-// Whether each number in a shape's cells is within its field. A field that a kind doesn't have has no bits, and its one number is
+// Whether each number in a shape's elements is within its field. A field that a kind doesn't have has no bits, and its one number is
 // zero.
 mod points;
 
@@ -7,13 +7,13 @@ ghost use mathlib.Core.Path.{_≡_};
 ghost use Prim.Native.Nat.{_≤_};
 ghost use lib.ListN.{length};
 ghost use Rattle.ground.specs.Answers.{Decides};
-ghost use Rattle.code_cells.specs.Shapes.{kindIn};
-ghost use Rattle.limits.specs.Limits.{CellsInFields, numbersIn, largestOf, positionedLargest, Within};
+ghost use Rattle.code_arrays.specs.Shapes.{arrayKind};
+ghost use Rattle.limits.specs.Limits.{ElementsInFields, numbersIn, largestOf, positionedLargest, Within};
 
 pub fn in_fields(codes: &[u32], kind: Kind) -> bool
     requires { ⌜ 61 ≤ length (now codes) ⌝ }
-    requires { ⌜ kind ≡ kindIn (now codes) ⌝ }
-    ensures { λ r. ⌜ Decides r (CellsInFields (now (codes .entry))) ⌝ }
+    requires { ⌜ kind ≡ arrayKind (now codes) ⌝ }
+    ensures { λ r. ⌜ Decides r (ElementsInFields (now (codes .entry))) ⌝ }
 {
     if !within(numbers_in(codes), largest_of(kind)) {
         return false;
@@ -22,7 +22,7 @@ pub fn in_fields(codes: &[u32], kind: Kind) -> bool
     points::within(codes, count)
 }
 
-// The number in each field that is no polygon point's, in the order of the cells.
+// The number in each field that is no polygon point's, in the order of the elements.
 fn numbers_in(codes: &[u32]) -> [u32; 16]
     requires { ⌜ 61 ≤ length (now codes) ⌝ }
     ensures { λ r. ⌜ r ≡ numbersIn (now (codes .entry)) ⌝ }
@@ -32,7 +32,7 @@ fn numbers_in(codes: &[u32]) -> [u32; 16]
         codes[1],
         codes[2],
         codes[3],
-        storing::complement_of(cells::longitude_of(codes[4])),
+        octets::complement_of(code_arrays::longitude_of(codes[4])),
         codes[5],
         codes[6],
         codes[7],

@@ -2,7 +2,7 @@
 ghost use Prim.Native.Nat.{_+_, _*_, _≤_};
 ghost use lib.ListN.{length};
 ghost use Rattle.ground.specs.Answers.{Decides};
-ghost use Rattle.limits.specs.Limits.{PointsWithin, UsedWithin, NoneFrom};
+ghost use Rattle.limits.specs.Limits.{PointsWithin, UsedWithin, NoCodesFrom};
 
 // Whether the first n points are within their fields, and the others zero.
 pub fn within(codes: &[u32], n: usize) -> bool
@@ -30,7 +30,7 @@ fn used_within(codes: &[u32], n: usize) -> bool
         if 8388607 < codes[at + 1] {
             return false;
         }
-        if 16777215 < storing::complement_of(cells::longitude_of(codes[at + 2])) {
+        if 16777215 < octets::complement_of(code_arrays::longitude_of(codes[at + 2])) {
             return false;
         }
         i += 1;
@@ -38,11 +38,11 @@ fn used_within(codes: &[u32], n: usize) -> bool
     true
 }
 
-// Every cell is looked at whatever the others are, as the numbers of fields are.
+// Every element is looked at whatever the others are, as the numbers of fields are.
 fn none_from(codes: &[u32], first: usize) -> bool
     requires { ⌜ 61 ≤ length (now codes) ⌝ }
     requires { ⌜ first ≤ 61 ⌝ }
-    ensures { λ r. ⌜ Decides r (NoneFrom (now (codes .entry)) first) ⌝ }
+    ensures { λ r. ⌜ Decides r (NoCodesFrom (now (codes .entry)) first) ⌝ }
 {
     let mut all = true;
     let mut at = first;

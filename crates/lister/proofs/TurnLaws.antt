@@ -2,12 +2,12 @@
 use Prim.Native.Nat.{ℕ, zero, suc, _+_, _-_, _*_, _≤_, _<_}
 use mathlib.Core.Path.{_≡_, refl, sym, ap, _∙_, subst}
 use mathlib.Core.Bool.{Bool, true, false, _||_}
-use mathlib.Core.List.{List, [], _∷_, _++_}
+use mathlib.Core.List.{List, [], _∷_}
 use native.Mathlib.Omega.{arith}
 use lib.ListN.{length, take, drop, length-drop}
 use lib.Seq.{drop-drop, length-take-le, take-nil}
 use lib.Dec.{T}
-use Rattle.steps.specs.Steps.{longestStep}
+use Rattle.listing.specs.Steps.{longestStep}
 use Rattle.listing.specs.Streaming.{Lists}
 use Rattle.listing.specs.declared.Listed.{Listed}
 use Rattle.listing.proofs.StreamLaws.{stuck, counted, written-text}
@@ -15,7 +15,7 @@ use Rattle.lister.specs.declared.Held.{Held}
 use Rattle.streaming.specs.declared.source.Source.{Source}
 use Rattle.streaming.specs.declared.sink.Sink.{Sink}
 use Rattle.streaming.specs.Sinks.{Wrote}
-use Rattle.lister.specs.Holding.{octetsHeld, foundIn, Sound, Turned, Refilled, Stepped, lists, reads, mostFrames, mayRead, turnsLeft}
+use Rattle.lister.specs.Holding.{octetsHeld, foundIn, Sound, Turned, HeldRefilled, Stepped, lists, reads, mostFrames, mayRead, turnsLeft}
 
 abbrev over-of : Source → Bool
 over-of s = s .over
@@ -108,7 +108,7 @@ module _ {buf x y : List ℕ} {h m : Held} (t : Turned buf x y h m) where
   may-read room on same = ap over-of (t .same-source) ∙ stuck (length x) (h .source .over) (octetsHeld buf h) (h .unbroken) room (omega (arith, t .place)) (not-ended t on) .0
 
   -- one that takes none holds fewer than 95 octets: it reads more, or finds that nothing is left to read
-  pub read-nearer : {after : List ℕ} {r : Held} → longestStep ≤ length x → Sound buf h → m .ended ≡ false → m .at ≡ h .at → Refilled buf after m r → turnsLeft r < turnsLeft h
+  pub read-nearer : {after : List ℕ} {r : Held} → longestStep ≤ length x → Sound buf h → m .ended ≡ false → m .at ≡ h .at → HeldRefilled buf after m r → turnsLeft r < turnsLeft h
   read-nearer {after} {r} room o on same f =
       let w = stuck (length x) (h .source .over) (octetsHeld buf h) (h .unbroken) room (omega (arith, t .place)) (not-ended t on) in
       let c = counted (length x) (h .source .over) (octetsHeld buf h) (h .unbroken) .0 in

@@ -11,7 +11,7 @@ use lib.ListN.{length, take, drop, length-drop, length-append}
 use Rattle.listing.specs.Listing.{listing}
 use Rattle.listing.specs.Streaming.{listFrom}
 use Rattle.listing.proofs.StreamLaws.{some-lists, rest, taken-inside}
-use Rattle.listing.specs.Messages.{linesOf, closing}
+use Rattle.listing.specs.Messages.{messageLines, closing}
 use Rattle.listing.proofs.MessageLaws.{Parsed, listing-lines}
 use Rattle.lister.specs.declared.Held.{Held}
 use Rattle.streaming.specs.declared.source.Source.{Source}
@@ -19,7 +19,7 @@ use Rattle.streaming.specs.declared.sink.Sink.{Sink}
 use Rattle.streaming.specs.Sources.{unreadYet}
 use Rattle.streaming.specs.Sinks.{unwrittenYet}
 use Rattle.streaming.proofs.SourceLaws.{piece-behind}
-use Rattle.lister.specs.Holding.{Sound, octetsHeld, foundIn, Turned, Refilled, Stepped, mostFrames}
+use Rattle.lister.specs.Holding.{Sound, octetsHeld, foundIn, Turned, HeldRefilled, Stepped, mostFrames}
 use Rattle.lister.specs.Holding as holding
 use Rattle.lister.proofs.TurnLaws.{not-ended, still-open}
 use Rattle.lister.specs.Walking.{Walk, start, lists, reads, Walked, Ran}
@@ -47,7 +47,7 @@ never : {A : Type 0} {b : Bool} → b ≡ true → b ≡ false → A
 never p q = absurd (let z : _≡_ {A = Bool} true false = sym p ∙ q in let y : _≡_ {A = ℕ} 0 1 = cc in omega arith)
 
 -- the octets that were held, and the piece behind them
-parts : {buf after : List ℕ} {h r : Held} → Refilled buf after h r → octetsHeld after r ≡ octetsHeld buf h ++ drop (h .source .fill - h .at) (octetsHeld after r)
+parts : {buf after : List ℕ} {h r : Held} → HeldRefilled buf after h r → octetsHeld after r ≡ octetsHeld buf h ++ drop (h .source .fill - h .at) (octetsHeld after r)
 parts {buf} {after} {h} {r} f =
     rw (f .start) (piece-behind (f .read))
 
@@ -169,7 +169,7 @@ module _ {buf : List ℕ} {r : Held} (ran : Ran buf r) where
   lister-lists few done = lister-lists-all few done [] (λ _. refl) ∙ ap listing (append-nil readAll)
 
   -- with the line of each unbroken frame, and their number behind `end`
-  pub lister-lines : length readAll < mostFrames → r .sink .closed ≡ false → (p : Parsed readAll) → putOut ≡ linesOf 0 (p .messages) ++ closing (p .cut) (length (p .messages))
+  pub lister-lines : length readAll < mostFrames → r .sink .closed ≡ false → (p : Parsed readAll) → putOut ≡ messageLines 0 (p .messages) ++ closing (p .cut) (length (p .messages))
   lister-lines few done p = lister-lists few done ∙ listing-lines (p .input)
 
   -- IT WRITES ALL OF THAT

@@ -35,7 +35,7 @@ pub record Turned (buf x y : List ℕ) (h r : Held) : Type 0 where
   pub content : y ≡ sets x 0 (foundIn (length x) buf h .text)
 
 -- what was read stands behind what was held
-pub record Refilled (before after : List ℕ) (h r : Held) : Type 0 where
+pub record HeldRefilled (before after : List ℕ) (h r : Held) : Type 0 where
   pub sound : Sound after r
   pub read : ReadMore before after (h .at) (h .source) (r .source)
   pub start : r .at ≡ 0
@@ -58,10 +58,10 @@ turnsLeft h = 200 * (mostFrames - h .unbroken) + mayRead (h .source .over) + (95
 -- A TURN: what is held is listed; and where that lists no frame and ends nothing, and something may be left to read, more is read behind it
 pub data Stepped (buf x y after : List ℕ) (h r : Held) : Type 0 where
   lists : Turned buf x y h r → after ≡ buf → Stepped buf x y after h r
-  reads : (m : Held) → Turned buf x y h m → m .ended ≡ false → m .source .over ≡ false → Refilled buf after m r → Stepped buf x y after h r
+  reads : (m : Held) → Turned buf x y h m → m .ended ≡ false → m .source .over ≡ false → HeldRefilled buf after m r → Stepped buf x y after h r
 
 -- a turn goes on nearer to the end
-pub record Goes (buf x y after : List ℕ) (h r : Held) : Type 0 where
+pub record TurnTaken (buf x y after : List ℕ) (h r : Held) : Type 0 where
   pub stepped : Stepped buf x y after h r
   pub sound : Sound after r
   pub nearer : r .ended ≡ false → turnsLeft r < turnsLeft h

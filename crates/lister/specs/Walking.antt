@@ -1,13 +1,13 @@
 -- THE WHOLE RUN: the turns in a row, with the octets that were read and the text that was put out.
 use Prim.Native.Nat.{ℕ, _-_, _≤_}
-use mathlib.Core.Bool.{true, false}
+use mathlib.Core.Bool.{false}
 use mathlib.Core.Path.{_≡_}
 use mathlib.Core.List.{List, [], _++_}
 use lib.ListN.{length, drop}
 use Rattle.lister.specs.declared.Held.{Held}
 use Rattle.streaming.specs.Sources.{unreadYet}
 use Rattle.streaming.specs.Sinks.{unwrittenYet}
-use Rattle.lister.specs.Holding.{octetsHeld, foundIn, Turned, Refilled, mostFrames}
+use Rattle.lister.specs.Holding.{octetsHeld, foundIn, Turned, HeldRefilled, mostFrames}
 
 -- nothing is read, listed or counted, and the input is not over
 abbrev pub nothingHeld : Held
@@ -19,7 +19,7 @@ pub data Walk : List ℕ → Held → List ℕ → List ℕ → Type 0 where
   start : (buf : List ℕ) → Walk buf nothingHeld [] []
   lists : {buf x y input text : List ℕ} {h r : Held} → Walk buf h input text → h .ended ≡ false → Turned buf x y h r
       → Walk buf r input (text ++ foundIn (length x) buf h .text)
-  reads : {buf after input text : List ℕ} {h r : Held} → Walk buf h input text → h .ended ≡ false → h .source .over ≡ false → Refilled buf after h r
+  reads : {buf after input text : List ℕ} {h r : Held} → Walk buf h input text → h .ended ≡ false → h .source .over ≡ false → HeldRefilled buf after h r
       → Walk after r (input ++ drop (h .source .fill - h .at) (octetsHeld after r)) text
 
 pub record Walked (buf : List ℕ) (h : Held) : Type 0 where

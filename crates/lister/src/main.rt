@@ -5,9 +5,9 @@ ghost use mathlib.Core.Path.{_≡_};
 ghost use mathlib.Core.Bool.{false, _||_};
 ghost use Prim.Native.Nat.{_≤_, _<_};
 ghost use lib.ListN.{length};
-ghost use Rattle.steps.specs.Steps.{longestStep};
+ghost use Rattle.listing.specs.Steps.{longestStep};
 ghost use Rattle.streaming.specs.Sinks.{Wrote};
-ghost use Rattle.lister.specs.Holding.{Sound, Refilled, Turned, Goes, foundIn, mostFrames};
+ghost use Rattle.lister.specs.Holding.{Sound, HeldRefilled, Turned, TurnTaken, foundIn, mostFrames};
 ghost use Rattle.lister.specs.Walking.{Ran};
 
 // No log has so many frames: each takes four octets or more.
@@ -61,7 +61,7 @@ fn turn(out: &mut [u8], buf: &mut [u8], held: Held) -> Held
     requires { ⌜ Sound (now buf) held ⌝ }
     requires { ⌜ held .unbroken < mostFrames ⌝ }
     requires { ⌜ held .sink .closed ≡ false ⌝ }
-    ensures { λ r. ⌜ Goes (now (buf .entry)) (now (out .entry)) (now (out .exit)) (now (buf .exit)) held r ⌝ }
+    ensures { λ r. ⌜ TurnTaken (now (buf .entry)) (now (out .entry)) (now (out .exit)) (now (buf .exit)) held r ⌝ }
 {
     let listed = list_held(out, buf, held);
     if listed.ended {
@@ -120,7 +120,7 @@ fn over(ended: bool, closed: bool) -> bool
 // Reads once, behind what is held. A read that fails ends the input.
 fn refill(buf: &mut [u8], held: Held) -> Held
     requires { ⌜ Sound (now buf) held ⌝ }
-    ensures { λ r. ⌜ Refilled (now (buf .entry)) (now (buf .exit)) held r ⌝ }
+    ensures { λ r. ⌜ HeldRefilled (now (buf .entry)) (now (buf .exit)) held r ⌝ }
 {
     let before = held.source;
     let sink = held.sink;

@@ -1,4 +1,4 @@
--- The listing is a line for each unbroken frame, and the number behind `end` is theirs. Assumes nothing.
+-- The listing is a line for each unbroken frame, and the number behind `end` is theirs.
 use Prim.Native.Nat.{ℕ, zero, suc, _+_, _≤_, _<_}
 use mathlib.Core.Path.{_≡_, refl, sym, ap, _∙_, subst}
 use mathlib.Core.Bool.{Bool, true, false}
@@ -11,10 +11,10 @@ use Rattle.frames.specs.Frames.{frameOf}
 use Rattle.frames.specs.declared.Frame.{Frame}
 use Rattle.frames.specs.declared.Frame.the-variants.{Whole, Broken, More, End}
 use Rattle.frames.proofs.FrameLaws.{short-end, frame-made, frame-waits, made-whole, Made}
-use Rattle.steps.specs.Steps.{textOf, lineOf}
+use Rattle.listing.specs.Steps.{textOf, lineOf}
 use Rattle.listing.specs.Listing.{listing}
 use Rattle.listing.specs.Streaming.{listFrom}
-use Rattle.listing.specs.Messages.{Message, framed, Input, nothing, broken, frame, linesOf, closing}
+use Rattle.listing.specs.Messages.{Message, framed, Input, nothing, broken, frame, messageLines, closing}
 use Rattle.listing.proofs.StreamLaws.{list-step, whole-there}
 
 -- the first message's line, and then the rest
@@ -26,8 +26,8 @@ list-framed n m s known short =
     let message : take (length (m .octets)) (m .octets ++ s) ≡ m .octets = take-at (m .octets) s (length (m .octets)) refl in
     list-step n (framed m ++ s) ∙ rw (made-whole true (m .kind) (m .octets) s known short, past, message)
 
-list-from : {ms : List Message} {b : Bool} {s : List ℕ} (n : ℕ) → Input ms b s → listFrom n s ≡ linesOf n ms ++ closing b (n + length ms)
-unfolding linesOf closing textOf
+list-from : {ms : List Message} {b : Bool} {s : List ℕ} (n : ℕ) → Input ms b s → listFrom n s ≡ messageLines n ms ++ closing b (n + length ms)
+unfolding messageLines closing textOf
 list-from n nothing = list-step n [] ∙ rw (short-end [] refl, append-nil, add-zero)
 list-from n (broken {s} e) = list-step n s ∙ rw (e, append-nil, add-zero)
 list-from n (frame {ms = ms} {s = s} m known short rest) =
@@ -37,7 +37,7 @@ list-from n (frame {ms = ms} {s = s} m known short rest) =
     ∙ rw (count, append-assoc)
 
 -- THE LISTING: a line for each unbroken frame, and the last line with their number
-pub listing-lines : {ms : List Message} {b : Bool} {s : List ℕ} → Input ms b s → listing s ≡ linesOf 0 ms ++ closing b (length ms)
+pub listing-lines : {ms : List Message} {b : Bool} {s : List ℕ} → Input ms b s → listing s ≡ messageLines 0 ms ++ closing b (length ms)
 unfolding listing listFrom
 listing-lines {ms} {b} r = let e : 0 + length ms ≡ length ms = omega arith in list-from 0 r ∙ rw e
 

@@ -1,4 +1,4 @@
--- What list_some's loop keeps, and what each way out of a turn makes of it. Assumes nothing.
+-- What list_some's loop keeps, and what each way out of a turn makes of it.
 use Prim.Native.Nat.{ℕ, suc, _+_, _-_, _≤_, _<_}
 use mathlib.Core.Path.{_≡_, refl, sym, ap, _∙_, subst}
 use mathlib.Core.Bool.{Bool, false}
@@ -16,7 +16,7 @@ use Rattle.frames.specs.declared.Frame.{Frame}
 use Rattle.frames.proofs.Frame.{the-type}
 use Rattle.frames.specs.declared.Frame.the-variants.{Whole, Broken, More, End}
 use Rattle.frames.proofs.FrameLaws.{frame-there}
-use Rattle.steps.specs.Steps.{textOf, longestStep}
+use Rattle.listing.specs.Steps.{textOf, longestStep}
 use Rattle.listing.specs.Streaming.{found, onFrame, endsRun, someIn, someOf, Lists}
 
 -- a part to the end is what is dropped to

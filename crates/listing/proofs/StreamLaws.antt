@@ -6,7 +6,7 @@ use mathlib.Core.List.{List, [], _++_, append-nil, append-assoc}
 use mathlib.Core.Logic.{⊎-elim}
 use native.Mathlib.Omega.{arith}
 use native.Mathlib.Nat.{le-refl}
-use lib.ListN.{length, take, drop, length-append, length-drop}
+use lib.ListN.{length, take, drop, length-drop}
 use lib.Seq.{take-append-le, drop-append-le, drop-drop}
 use borrow.Author.Tests.{lt-ltb, le-ltb}
 use Rattle.text.specs.Text.{Puts}
@@ -15,7 +15,7 @@ use Rattle.frames.specs.Frames.{frameOf, octetsOf}
 use Rattle.frames.specs.declared.Frame.{Frame}
 use Rattle.frames.specs.declared.Frame.the-variants.{Whole, Broken, More, End}
 use Rattle.frames.proofs.FrameLaws.{frame-there, frame-stays, frame-waits}
-use Rattle.steps.specs.Steps.{textOf, longestStep}
+use Rattle.listing.specs.Steps.{textOf, longestStep}
 use Rattle.listing.specs.Listing.{onWhole, listIn}
 use Rattle.listing.specs.Streaming.{listFrom, Found, found, onFrame, endsRun, someIn, someOf, Lists}
 use Rattle.listing.specs.declared.Listed.{Listed}

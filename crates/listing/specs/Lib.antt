@@ -1,3 +1,4 @@
 pub mod Listing
 pub mod Messages
+pub mod Steps
 pub mod Streaming

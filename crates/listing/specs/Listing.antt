@@ -1,4 +1,4 @@
--- THE LISTING, document 01, "The lister": the text of an input. Assumes nothing.
+-- THE LISTING, document 01, "The lister": the text of an input.
 use Prim.Native.Nat.{ℕ, zero, suc, _+_}
 use mathlib.Core.Bool.{true}
 use mathlib.Core.List.{List, [], _++_}
@@ -6,7 +6,7 @@ use lib.ListN.{length, drop}
 use Rattle.frames.specs.Frames.{frameOf}
 use Rattle.frames.specs.declared.Frame.{Frame}
 use Rattle.frames.specs.declared.Frame.the-variants.{Whole, Broken, More, End}
-use Rattle.steps.specs.Steps.{textOf}
+use Rattle.listing.specs.Steps.{textOf}
 
 -- after an unbroken frame, with the size of its message, the rest; after anything else nothing
 abbrev pub onWhole : Frame → (ℕ → List ℕ) → List ℕ

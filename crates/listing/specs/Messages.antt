@@ -1,13 +1,13 @@
--- THE INPUT BY ITS FRAMES: the messages of an input, their lines, and the last line with their number. Assumes nothing.
+-- THE INPUT BY ITS FRAMES: the messages of an input, their lines, and the last line with their number.
 use Prim.Native.Nat.{ℕ, _+_, _≤_}
 use mathlib.Core.Path.{_≡_}
 use mathlib.Core.Bool.{Bool, true, false}
 use mathlib.Core.List.{List, [], _∷_, _++_}
 use lib.ListN.{length}
-use Rattle.printing.specs.Printing.{endText}
+use Rattle.text.specs.AnswerLines.{endText}
 use Rattle.frames.specs.Frames.{frameOf}
 use Rattle.frames.specs.declared.Frame.the-variants.{Broken}
-use Rattle.steps.specs.Steps.{lineOf, brokenOf}
+use Rattle.listing.specs.Steps.{lineOf, brokenOf}
 
 pub record Message : Type 0 where
   pub kind : ℕ
@@ -25,9 +25,9 @@ pub data Input : List Message → Bool → List ℕ → Type 0 where
       → Input (m ∷ ms) b (framed m ++ s)
 
 -- a line for each message, after n others
-unfoldable pub linesOf : ℕ → List Message → List ℕ
-linesOf n [] = []
-linesOf n (m ∷ ms) = lineOf (n + 1) (m .kind) (m .octets) ++ linesOf (n + 1) ms
+unfoldable pub messageLines : ℕ → List Message → List ℕ
+messageLines n [] = []
+messageLines n (m ∷ ms) = lineOf (n + 1) (m .kind) (m .octets) ++ messageLines (n + 1) ms
 
 -- the lines behind those of n messages
 unfoldable pub closing : Bool → ℕ → List ℕ

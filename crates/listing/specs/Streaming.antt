@@ -9,7 +9,7 @@ use lib.Seq.{sets}
 use Rattle.frames.specs.Frames.{frameOf}
 use Rattle.frames.specs.declared.Frame.{Frame}
 use Rattle.frames.specs.declared.Frame.the-variants.{Whole, Broken, More, End}
-use Rattle.steps.specs.Steps.{textOf, longestStep}
+use Rattle.listing.specs.Steps.{textOf, longestStep}
 use Rattle.listing.specs.Listing.{listIn}
 use Rattle.listing.specs.declared.Listed.{Listed}
 

@@ -1,4 +1,6 @@
 // The listing of a log that comes in pieces: a line for each frame, and a last line with their number. Document 01, "The lister".
+mod steps;
+
 use frames::Frame;
 ghost use mathlib.Core.Path.{_≡_};
 ghost use Prim.Native.Nat.{_+_, _<_, _^_};

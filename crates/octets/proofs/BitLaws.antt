@@ -1,4 +1,4 @@
--- Laws of `bits`: a number of bits is joined from two parts, is below a power of two, and an octet is its eight bits. Assumes nothing.
+-- Laws of `bits`: a number of bits is joined from two parts, is below a power of two, and an octet is its eight bits.
 use Prim.Native.Nat.{ℕ, zero, suc, _+_, _-_, _*_, _/_, _%_, _^_, _≤_, _<_}
 use mathlib.Core.Path.{_≡_, ap, _∙_}
 use mathlib.Core.List.{List}

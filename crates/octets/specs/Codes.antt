@@ -1,4 +1,4 @@
--- The codes of more than one part, as the numbers that stand in a message's bits. Assumes nothing.
+-- The codes of more than one part, as the numbers that stand in a message's bits.
 use mathlib.Core.Bool.{Bool, true, false, cond}
 use Prim.Native.Nat.{ℕ, _+_, _-_, _*_}
 use lib.Dec.{eqb, ltb}

@@ -1,7 +1,14 @@
 // Numbers and codes in octets, high octet first, read where they stand.
+mod storing;
+
 use ground::AltitudeCode;
 use ground::LatitudeCode;
 use ground::LongitudeCode;
+pub use storing::complement_of;
+pub use storing::put_altitude;
+pub use storing::put_four;
+pub use storing::put_position;
+pub use storing::put_word;
 ghost use mathlib.Core.Path.{_≡_};
 ghost use Prim.Native.Nat.{_+_, _*_, _<_, _≤_};
 ghost use lib.ListN.{length};

@@ -1,4 +1,4 @@
--- The fields of a record that the writer takes hold its codes: one law over its places. Assumes nothing.
+-- The fields of a record that the writer takes hold its codes: one law over its places.
 use Prim.Native.Nat.{ℕ, zero, suc, _^_, _≤_, _<_}
 use mathlib.Core.Path.{_≡_, refl}
 use mathlib.Core.Bool.{Bool, true, false}
@@ -12,14 +12,14 @@ use Rattle.octets.specs.Codes.{complement}
 use Rattle.fields.specs.Quantities.{Held}
 use Rattle.layout.specs.declared.shape.Shape.{Shape}
 use Rattle.layout.specs.declared.velocity.Velocity.{Velocity}
-use Rattle.layout.specs.Layout.{Field, Row, velocityRows}
+use Rattle.layout.specs.Layout.{MessageField, Row, velocityRows}
 use Rattle.layout.specs.Layout as layout
 use Rattle.layout.specs.Rows.{widthOf, lengthOf}
 use Rattle.layout.specs.Demands.{Used, InFields, WriteAnswer}
 use Rattle.layout.specs.Shapes.{rowsOf, valueOf}
 use Rattle.layout.specs.Velocities.{velocityValueOf}
 use Rattle.layout.proofs.DemandLaws.{Sound, sound}
-use Rattle.trips.proofs.WidthLaws.{shapeWidest, velocityWidest, code-of, velocity-code-of}
+use Rattle.layout.proofs.WidthLaws.{shapeWidest, velocityWidest, code-of, velocity-code-of}
 use Rattle.quantities.specs.Places.{
   Place,
   latitude,
@@ -44,11 +44,11 @@ use Rattle.quantities.specs.Places.{
 use Rattle.quantities.specs.Shapes.{codeAt, TakesShape}
 use Rattle.quantities.specs.Velocities.{velocityCodeAt, TakesVelocity}
 
-sound-of : (rows : List Row) (value : Field → ℕ) → WriteAnswer rows value (lengthOf rows) 0 → Sound rows value
+sound-of : (rows : List Row) (value : MessageField → ℕ) → WriteAnswer rows value (lengthOf rows) 0 → Sound rows value
 sound-of rows value t = sound rows value (lengthOf rows) t .0
 
 -- a number that is below a bound where it is used, and has no bits where it isn't
-bounded : (rows : List Row) (value : Field → ℕ) (f : Field) (most : ℕ) → InFields rows value → 0 < most → (Used rows f → value f < most) → value f < most
+bounded : (rows : List Row) (value : MessageField → ℕ) (f : MessageField) (most : ℕ) → InFields rows value → 0 < most → (Used rows f → value f < most) → value f < most
 bounded rows value f most h some used = by (ltb 0 (widthOf rows f)) refl
   where
     by : (b : Bool) → ltb 0 (widthOf rows f) ≡ b → value f < most
@@ -77,10 +77,10 @@ module _ (x : Shape) (t : TakesShape x) where
   pub taken : Sound (rowsOf x) (valueOf x)
   taken = sound-of (rowsOf x) (valueOf x) t
 
-  number : (f : Field) → valueOf x f < 2 ^ shapeWidest f
+  number : (f : MessageField) → valueOf x f < 2 ^ shapeWidest f
   number = code-of (x .kind) (x .count) (valueOf x) (taken .fields)
 
-  below : (f : Field) (most : ℕ) → 0 < most → (Used (rowsOf x) f → valueOf x f < most) → valueOf x f < most
+  below : (f : MessageField) (most : ℕ) → 0 < most → (Used (rowsOf x) f → valueOf x f < most) → valueOf x f < most
   below f most = bounded (rowsOf x) (valueOf x) f most (taken .fields)
 
   pub shape-held : (p : Place) → Held (fieldOf p) (codeAt x p)
@@ -113,7 +113,7 @@ module _ (x : Velocity) (t : TakesVelocity x) where
   pub motion-taken : Sound (velocityRows (x .kind)) (velocityValueOf x)
   motion-taken = sound-of (velocityRows (x .kind)) (velocityValueOf x) t
 
-  motion-number : (f : Field) → velocityValueOf x f < 2 ^ velocityWidest f
+  motion-number : (f : MessageField) → velocityValueOf x f < 2 ^ velocityWidest f
   motion-number = velocity-code-of (x .kind) (velocityValueOf x) (motion-taken .fields)
 
   pub velocity-held : (p : Place) → Held (fieldOf p) (velocityCodeAt x p)

@@ -1,4 +1,4 @@
-pub mod ZeroLaws
-pub mod UnusedLaws
 pub mod HeldLaws
 pub mod TestLaws
+pub mod UnusedLaws
+pub mod ZeroLaws

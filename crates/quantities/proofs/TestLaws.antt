@@ -1,4 +1,4 @@
--- What a test shows of a number that is compared with zero. Assumes nothing.
+-- What a test shows of a number that is compared with zero.
 use Prim.Native.Nat.{ℕ}
 use mathlib.Core.Path.{_≡_, refl, sym, ap, _∙_}
 use mathlib.Core.Bool.{Bool, true, false}

@@ -1,4 +1,4 @@
--- What a type doesn't use: a sign goes with its number, and a code that is in its field is zero. Assumes nothing.
+-- What a type doesn't use: a sign goes with its number, and a code that is in its field is zero.
 use Prim.Native.Nat.{ℕ, zero, suc, _+_, _*_, _^_, _≤_, _<_}
 use mathlib.Core.Path.{_≡_, refl, sym}
 use mathlib.Core.Bool.{Bool, true, false}
@@ -15,7 +15,7 @@ use Rattle.layout.specs.declared.shape.Shape.{Shape}
 use Rattle.layout.specs.declared.velocity.VelocityKind.{VelocityKind}
 use Rattle.layout.specs.declared.velocity.VelocityKind.the-variants as velocity
 use Rattle.layout.specs.declared.velocity.Velocity.{Velocity}
-use Rattle.layout.specs.Layout.{Field, Row, shapeRows, velocityRows}
+use Rattle.layout.specs.Layout.{MessageField, Row, shapeRows, velocityRows}
 use Rattle.layout.specs.Layout as layout
 use Rattle.layout.specs.Rows.{tag, widthOf}
 use Rattle.layout.specs.Demands.{Used, InFields}
@@ -51,7 +51,7 @@ use Rattle.quantities.specs.Shapes.{codeAt}
 use Rattle.quantities.specs.Velocities.{velocityCodeAt}
 
 -- a field is used, or it isn't
-pub by-use : (rows : List Row) (f : Field) (P : Type 0) → (Used rows f → P) → (Unused rows f → P) → P
+pub by-use : (rows : List Row) (f : MessageField) (P : Type 0) → (Used rows f → P) → (Unused rows f → P) → P
 by-use rows f P used unused = by (ltb 0 (widthOf rows f)) refl
   where
     by : (b : Bool) → ltb 0 (widthOf rows f) ≡ b → P
@@ -60,7 +60,7 @@ by-use rows f P used unused = by (ltb 0 (widthOf rows f)) refl
 
 -- ---- a polygon's points: the first n are used
 
-pub used-point : (k : Kind) (n i : ℕ) (f : Field) → 3 * i + 22 ≤ tag f → Used (shapeRows k n) f → i < pointsOf k n
+pub used-point : (k : Kind) (n i : ℕ) (f : MessageField) → 3 * i + 22 ≤ tag f → Used (shapeRows k n) f → i < pointsOf k n
 used-point k n i f h u = by (ltb i (pointsOf k n)) refl
   where
     by : (b : Bool) → ltb i (pointsOf k n) ≡ b → i < pointsOf k n
@@ -121,7 +121,7 @@ down-unused velocity.HorizontalVerticalUncertain e = absurd (omega arith)
 
 -- ---- the codes
 
-pub no-number : (rows : List Row) (value : Field → ℕ) → InFields rows value → (f : Field) → Unused rows f → value f ≡ 0
+pub no-number : (rows : List Row) (value : MessageField → ℕ) → InFields rows value → (f : MessageField) → Unused rows f → value f ≡ 0
 no-number rows value h f e = let l : value f < 2 ^ 0 = rw e at (h .each f) in omega arith
 
 no-sign : (b : Bool) → bitOf b ≡ 0 → b ≡ false
@@ -132,7 +132,7 @@ no-turn : (z : ℤ) → complement z ≡ 0 → z ≡ pos 0
 no-turn z e = complement-one z (pos 0) (omega arith) e
 
 module _ (x : Shape) (h : InFields (rowsOf x) (valueOf x)) where
-  number : (f : Field) → Unused (rowsOf x) f → valueOf x f ≡ 0
+  number : (f : MessageField) → Unused (rowsOf x) f → valueOf x f ≡ 0
   number = no-number (rowsOf x) (valueOf x) h
 
   pub counted-points : pointsOf (x .kind) (x .count) ≡ x .count
@@ -166,7 +166,7 @@ module _ (x : Shape) (h : InFields (rowsOf x) (valueOf x)) where
   unused-code verticalUncertainty e = refl
 
 module _ (x : Velocity) (h : InFields (velocityRows (x .kind)) (velocityValueOf x)) where
-  motion-number : (f : Field) → Unused (velocityRows (x .kind)) f → velocityValueOf x f ≡ 0
+  motion-number : (f : MessageField) → Unused (velocityRows (x .kind)) f → velocityValueOf x f ≡ 0
   motion-number = no-number (velocityRows (x .kind)) (velocityValueOf x) h
 
   pub unused-motion : (p : Place) → Unused (velocityRows (x .kind)) (rowOf p) → velocityCodeAt x p ≡ zeroCode (fieldOf p)

@@ -1,5 +1,5 @@
 -- Zero is reported as zero and coded as zero, in every field but the included angle's, where 0 has no code; and a quantity that has a code
--- is not refused. Assumes nothing.
+-- is not refused.
 use Prim.Native.Nat.{ℕ, zero, suc, _<_}
 use mathlib.Core.Path.{_≡_, refl, sym, subst}
 use mathlib.Core.Bool.{Bool, true, false}

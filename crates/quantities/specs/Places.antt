@@ -1,5 +1,5 @@
 -- The places of a record: each has a code, whose field says what the codes and the quantities are, and stands in a row of the
--- layout table. Assumes nothing.
+-- layout table.
 use mathlib.Core.Bool.{false}
 use mathlib.Core.List.{List}
 use Prim.Native.Nat.{ℕ}
@@ -41,7 +41,7 @@ fieldOf speedUncertainty = field.uncertaintySpeed
 fieldOf verticalUncertainty = field.uncertaintySpeed
 
 -- the row of its number; a sign has a row of its own
-abbrev pub rowOf : Place → layout.Field
+abbrev pub rowOf : Place → layout.MessageField
 rowOf (latitude i) = layout.latitude i
 rowOf (longitude i) = layout.longitude i
 rowOf altitude = layout.altitude
@@ -61,15 +61,15 @@ rowOf speedUncertainty = layout.speedUncertainty
 rowOf verticalUncertainty = layout.verticalUncertainty
 
 -- the code of every place, and the quantity of every place
-abbrev pub Codes : Type 0
-Codes = (p : Place) → CodeOf (fieldOf p)
+abbrev pub PlaceCodes : Type 0
+PlaceCodes = (p : Place) → CodeOf (fieldOf p)
 
-abbrev pub Quantities : Type 0
-Quantities = (p : Place) → QuantityOf (fieldOf p)
+abbrev pub PlaceQuantities : Type 0
+PlaceQuantities = (p : Place) → QuantityOf (fieldOf p)
 
 -- ---- what a type doesn't use
 
-abbrev pub Unused : List Row → layout.Field → Type 0
+abbrev pub Unused : List Row → layout.MessageField → Type 0
 Unused rows f = widthOf rows f ≡ 0
 
 abbrev pub zeroCode : (f : field.Field) → CodeOf f

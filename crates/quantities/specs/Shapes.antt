@@ -1,4 +1,4 @@
--- A shape's record reported, and its quantities coded. Assumes nothing.
+-- A shape's record reported, and its quantities coded.
 use mathlib.Core.Path.{_≡_}
 use mathlib.Core.List.{List}
 use Prim.Native.Nat.{zero, suc}
@@ -16,12 +16,12 @@ use Rattle.layout.specs.Shapes.{rowsOf, valueOf, zeroLatitude, zeroLongitude, b
 use Rattle.quantities.specs.declared.shape.ShapeQuantities.{ShapeQuantities}
 use Rattle.quantities.specs.declared.shape.ShapeReported.{ShapeReported}
 use Rattle.quantities.specs.declared.shape.ShapeCoded.{ShapeCoded}
-use Rattle.quantities.specs.Places.{latitude, longitude, altitude, uncertainty, semiMajor, semiMinor, orientation, altitudeUncertainty, confidence, innerRadius, offset, included, bearing, horizontalSpeed, verticalSpeed, speedUncertainty, verticalUncertainty, Codes, Quantities, zeroCode, zeroQuantity}
+use Rattle.quantities.specs.Places.{latitude, longitude, altitude, uncertainty, semiMajor, semiMinor, orientation, altitudeUncertainty, confidence, innerRadius, offset, included, bearing, horizontalSpeed, verticalSpeed, speedUncertainty, verticalUncertainty, PlaceCodes, PlaceQuantities, zeroCode, zeroQuantity}
 use Rattle.quantities.specs.Promises.{EachReported, EachCoded, CodeAnswer, Given}
 
 -- ---- the codes and the quantities at a shape's places; a velocity's are zero
 
-abbrev pub codeAt : Shape → Codes
+abbrev pub codeAt : Shape → PlaceCodes
 codeAt x (latitude zero) = x .latitude
 codeAt x (latitude (suc i)) = getD (x .latitudes) i zeroLatitude
 codeAt x (longitude zero) = x .longitude
@@ -45,7 +45,7 @@ codeAt x verticalUncertainty = zeroCode field.uncertaintySpeed
 abbrev pub zeroDegrees : Nanodegrees
 zeroDegrees = record { 0 = pos 0 }
 
-abbrev pub quantityAt : ShapeQuantities → Quantities
+abbrev pub quantityAt : ShapeQuantities → PlaceQuantities
 quantityAt q (latitude zero) = q .latitude
 quantityAt q (latitude (suc i)) = getD (q .latitudes) i zeroDegrees
 quantityAt q (longitude zero) = q .longitude

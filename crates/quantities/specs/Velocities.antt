@@ -1,4 +1,4 @@
--- A velocity's record reported, and its quantities coded. Assumes nothing.
+-- A velocity's record reported, and its quantities coded.
 use mathlib.Core.Path.{_≡_}
 use Rattle.ground.specs.Answers.{outcomeNumber}
 use Rattle.fields.specs.Fields as field
@@ -11,12 +11,12 @@ use Rattle.layout.specs.Velocities.{velocityValueOf, blankVelocity}
 use Rattle.quantities.specs.declared.velocity.VelocityQuantities.{VelocityQuantities}
 use Rattle.quantities.specs.declared.velocity.VelocityReported.{VelocityReported}
 use Rattle.quantities.specs.declared.velocity.VelocityCoded.{VelocityCoded}
-use Rattle.quantities.specs.Places.{latitude, longitude, altitude, uncertainty, semiMajor, semiMinor, orientation, altitudeUncertainty, confidence, innerRadius, offset, included, bearing, horizontalSpeed, verticalSpeed, speedUncertainty, verticalUncertainty, Codes, Quantities, zeroCode, zeroQuantity}
+use Rattle.quantities.specs.Places.{latitude, longitude, altitude, uncertainty, semiMajor, semiMinor, orientation, altitudeUncertainty, confidence, innerRadius, offset, included, bearing, horizontalSpeed, verticalSpeed, speedUncertainty, verticalUncertainty, PlaceCodes, PlaceQuantities, zeroCode, zeroQuantity}
 use Rattle.quantities.specs.Promises.{EachReported, EachCoded, CodeAnswer, Given}
 
 -- ---- the codes and the quantities at a velocity's places; a shape's are zero
 
-abbrev pub velocityCodeAt : Velocity → Codes
+abbrev pub velocityCodeAt : Velocity → PlaceCodes
 velocityCodeAt x bearing = x .bearing
 velocityCodeAt x horizontalSpeed = x .«horizontal_speed»
 velocityCodeAt x verticalSpeed = x .«vertical_speed»
@@ -35,7 +35,7 @@ velocityCodeAt x innerRadius = zeroCode field.innerRadius
 velocityCodeAt x offset = zeroCode field.offset
 velocityCodeAt x included = zeroCode field.included
 
-abbrev pub velocityQuantityAt : VelocityQuantities → Quantities
+abbrev pub velocityQuantityAt : VelocityQuantities → PlaceQuantities
 velocityQuantityAt q bearing = q .bearing
 velocityQuantityAt q horizontalSpeed = q .«horizontal_speed»
 velocityQuantityAt q verticalSpeed = q .«vertical_speed»

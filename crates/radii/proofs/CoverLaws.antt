@@ -1,5 +1,5 @@
--- Laws of `Covers`, for any scale and any growth num/den of at least 1: covering rises with the code and falls with the length. Assumes nothing.
-use mathlib.Core.Path.{_≡_, subst}
+-- Laws of `Covers`, for any scale and any growth num/den of at least 1: covering rises with the code and falls with the length.
+use mathlib.Core.Path.{subst}
 use mathlib.Core.Logic.{⊎-elim}
 use Prim.Native.Nat.{ℕ, zero, suc, _+_, _*_, _-_, _^_, _≤_, _<_}
 use native.Mathlib.Nat.{le-trans, mul-le-mul-left, mul-le-mul-right, mul-sub, mul-assoc, mul-comm, pow-suc, eq-or-lt-of-le, le-of-suc-le-suc, add-mul, mul-add, mul-left-comm, add-sub-of-le, pow-le-pow-left}

@@ -1,13 +1,13 @@
 -- One rule for a table of whole parts, over all its places: each is the greatest length that its code covers. antt computes the list, and a
--- table in `src/` is that list, entry by entry. Assumes nothing.
+-- table in `src/` is that list, entry by entry.
 use mathlib.Core.Path.{_≡_, sym, ap, _∙_, subst⁻¹}
-use Prim.Native.Nat.{ℕ, zero, suc, _+_, _*_, _-_, _/_, _^_, _≤_, _<_}
+use Prim.Native.Nat.{ℕ, zero, suc, _+_, _*_, _-_, _^_, _≤_, _<_}
 use native.Mathlib.Nat.{le-of-suc-le-suc, not-suc-le-zero, add-zero, zero-add, add-suc, suc-add, one-le-pow, div-mul-le-self, le-div-iff-mul-le}
 use native.Mathlib.Omega.{arith}
 use lib.ListN.{getD}
 use Rattle.ground.specs.Sets.{LeastCode, GreatestCovered}
 use Rattle.radii.specs.Covering.{Covers}
-use Rattle.rows.specs.Tables.{Rising, FirstAt}
+use Rattle.radii.specs.Rising.{Rising, FirstAt}
 use Rattle.radii.specs.Tables.{wholePart, tabulate, wholeParts, entriesIn}
 use Rattle.radii.specs.declared.tables.Table.{Table}
 use Rattle.radii.specs.declared.tables.Table.the-variants.{Radii, Heights}

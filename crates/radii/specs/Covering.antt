@@ -1,4 +1,4 @@
--- Covering, against the exact fraction. Assumes nothing.
+-- Covering, against the exact fraction.
 use Prim.Native.Nat.{ℕ, _*_, _-_, _^_, _≤_}
 
 -- Code K covers every whole R ≤ scale·((num/den)^K - 1). Both sides stand here times den^K: no fraction and no rounding.

@@ -1,4 +1,4 @@
--- The two uncertainty codes, K from 0 to 127, in whole millimetres. Assumes nothing.
+-- The two uncertainty codes, K from 0 to 127, in whole millimetres.
 use Prim.Native.Nat.{ℕ, _<_}
 use Rattle.ground.specs.Answers.{numberOf, Said, done, refused, Answer}
 use Rattle.ground.specs.Sets.{LeastCode, GreatestCovered}

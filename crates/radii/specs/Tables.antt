@@ -1,7 +1,7 @@
--- The two tables of whole millimetres, and the search of one. Assumes nothing.
+-- The two tables of whole millimetres, and the search of one.
 use mathlib.Core.List.{List, [], _∷_}
 use Prim.Native.Nat.{ℕ, zero, suc, _*_, _-_, _/_, _^_, _≤_}
-use Rattle.rows.specs.Tables.{Among}
+use Rattle.radii.specs.Rising.{Among}
 use Rattle.radii.specs.declared.tables.Table.{Table}
 use Rattle.radii.specs.declared.tables.Table.the-variants.{Radii, Heights}
 

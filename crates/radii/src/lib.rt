@@ -1,5 +1,6 @@
 // Uncertainty codes and their reported radii: K covers every whole millimetre up to r(K), or h(K) for an altitude
 // (document 01, "Quantities and codes").
+mod rows;
 mod tables;
 
 use ground::AltitudeUncertaintyCode;

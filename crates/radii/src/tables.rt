@@ -1,10 +1,11 @@
 // The two tables of whole millimetres, and the one search that serves both.
-use rows::Row;
+use crate::rows;
+use crate::rows::Row;
 ghost use mathlib.Core.Path.{_≡_};
 ghost use Prim.Native.Nat.{_*_, _-_, _≤_, _<_};
 ghost use lib.ListN.{getD};
-ghost use Rattle.rows.specs.Rows.{IsRow};
-ghost use Rattle.rows.specs.Tables.{Among, FirstAt};
+ghost use Rattle.radii.specs.Rows.{IsRow};
+ghost use Rattle.radii.specs.Rising.{Among, FirstAt};
 ghost use Rattle.radii.specs.Tables.{Halving, entriesIn};
 
 pub enum Table {

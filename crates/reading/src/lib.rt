@@ -4,7 +4,7 @@ use ground::Refusal;
 use layout::Kind;
 use layout::ShapeRead;
 ghost use Rattle.layout.specs.Shapes.{ReadsShape};
-ghost use Rattle.forming.specs.Forming.{RefusedWith};
+ghost use Rattle.forming.specs.Forming.{ReadingRefused};
 
 // The record in a message, or the refusal. Each octet is looked at once; 5 and 6 are judged on the record, in which a code
 // that its kind has no field for is 0.
@@ -37,7 +37,7 @@ pub fn read_shape(s: &[u8]) -> ShapeRead
 
 // A refusal hands back the record of no shape.
 fn refused(why: Refusal) -> ShapeRead
-    ensures { λ r. ⌜ RefusedWith why r ⌝ }
+    ensures { λ r. ⌜ ReadingRefused why r ⌝ }
 {
     ShapeRead {
         outcome: Outcome::Refused(why),

@@ -1,3 +1,5 @@
 pub mod FormLaws
-pub mod UseLaws
 pub mod ShapeLaws
+pub mod UseLaws
+pub mod VelocityLaws
+pub mod VelocityTestLaws

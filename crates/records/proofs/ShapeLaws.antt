@@ -1,4 +1,4 @@
--- A shape's places: from the codes that are found to what is promised of all places, and back where a test fails. Assumes nothing.
+-- A shape's places: from the codes that are found to what is promised of all places, and back where a test fails.
 use Prim.Native.Nat.{ℕ, zero, suc, _≤_}
 use mathlib.Core.Path.{_≡_, refl, sym, ap, subst}
 use mathlib.Core.Bool.{Bool}
@@ -15,31 +15,31 @@ use Rattle.fields.specs.Fields.{Coding}
 use Rattle.fields.specs.Fields as field
 use Rattle.layout.specs.declared.shape.Kind.the-variants.{Nothing}
 use Rattle.layout.specs.declared.shape.Shape.{Shape}
-use Rattle.layout.specs.Layout.{Field, Row}
+use Rattle.layout.specs.Layout.{MessageField, Row}
 use Rattle.layout.specs.Layout as layout
 use Rattle.layout.specs.Demands.{Used}
 use Rattle.layout.specs.Shapes.{blankShape}
 use Rattle.layout.proofs.KindLaws.{pointsOf}
-use Rattle.trips.proofs.WidthLaws.{shapeWidest, shape-width}
+use Rattle.layout.proofs.WidthLaws.{shapeWidest, shape-width}
 use Rattle.quantities.specs.declared.shape.ShapeQuantities.{ShapeQuantities}
 use Rattle.quantities.specs.declared.shape.ShapeCoded.{ShapeCoded}
-use Rattle.quantities.specs.Places.{Place, fieldOf, rowOf, Quantities, Unused, zeroCode, zeroQuantity}
+use Rattle.quantities.specs.Places.{Place, fieldOf, rowOf, PlaceQuantities, Unused, zeroCode, zeroQuantity}
 use Rattle.quantities.specs.Places as place
-use Rattle.quantities.specs.Promises.{InRange, Covered, CodeAnswer, Given}
+use Rattle.quantities.specs.Promises.{QuantitiesInRange, QuantitiesCovered, CodeAnswer, Given}
 use Rattle.quantities.specs.Shapes.{codeAt, quantityAt, quantityRows, RecordOf, CodesShape}
 use Rattle.quantities.proofs.UnusedLaws.{points-counted}
-use Rattle.groups.specs.declared.points.Points.{Points}
-use Rattle.groups.specs.declared.ranges.Ranged.{Ranged}
-use Rattle.groups.specs.declared.sizes.Sizes.{Sizes}
-use Rattle.unused.specs.declared.Uses.{Uses}
-use Rattle.unused.specs.Kinds.{usesOf}
+use Rattle.outline_codes.specs.declared.points.Points.{Points}
+use Rattle.outline_codes.specs.declared.ranges.Ranged.{Ranged}
+use Rattle.outline_codes.specs.declared.sizes.Sizes.{Sizes}
+use Rattle.outline_codes.specs.declared.unused.Uses.{Uses}
+use Rattle.outline_codes.specs.Kinds.{usesOf}
 use Rattle.records.specs.Kinds.{Formed}
-use Rattle.groups.specs.Outlines.{outlineJoined, Outlined}
-use Rattle.groups.specs.Points.{PointsKept, PointsCodes}
-use Rattle.groups.specs.Ranges.{RangesKept, RangedCodes, IncludedCodes}
-use Rattle.records.specs.Records.{RefusedShape, pointed}
-use Rattle.groups.specs.Sizes.{SizesCovered, SizeCodes}
-use Rattle.unused.specs.Unused.{RestZero}
+use Rattle.outline_codes.specs.Outlines.{outlineJoined, Outlined}
+use Rattle.outline_codes.specs.Points.{PointsKept, PointsCodes}
+use Rattle.outline_codes.specs.Ranges.{RangesKept, RangedCodes, IncludedCodes}
+use Rattle.records.specs.Records.{RefusedShape, withPoints}
+use Rattle.outline_codes.specs.Sizes.{SizesCovered, SizeCodes}
+use Rattle.outline_codes.specs.Unused.{RestZero}
 use Rattle.quantities.proofs.ZeroLaws.{not-refused, zero-has-code, kept}
 use Rattle.records.proofs.UseLaws.{grouped, idle, idle-back, active, active-back, count-idle, count-idle-back, latitude-used, longitude-used, latitude-unused, longitude-unused, latitude-counted, longitude-counted, latitude-past, longitude-past}
 
@@ -47,14 +47,14 @@ module _ (q : ShapeQuantities) where
   abbrev rows : List Row
   rows = quantityRows q
 
-  abbrev at : Quantities
+  abbrev at : PlaceQuantities
   at = quantityAt q
 
   abbrev used-groups : Uses
   used-groups = usesOf (q .kind)
 
   -- a velocity's field is in no shape
-  none : {A : Type 0} (f : Field) → shapeWidest f ≡ 0 → Used rows f → A
+  none : {A : Type 0} (f : MessageField) → shapeWidest f ≡ 0 → Used rows f → A
   none f e u = absurd (omega (arith, shape-width (q .kind) (q .count) f))
 
   -- ---- 7
@@ -107,11 +107,11 @@ module _ (q : ShapeQuantities) where
     in-range-unused place.speedUncertainty e = refl
     in-range-unused place.verticalUncertainty e = refl
 
-    pub in-range : InRange rows (q .count) at
+    pub in-range : QuantitiesInRange rows (q .count) at
     in-range = record { used = in-range-used; unused = in-range-unused; uncounted = λ e. z .counts (count-idle (q .kind) (q .count) e); axes = axes }
 
   -- and back
-  module _ (r : InRange rows (q .count) at) where
+  module _ (r : QuantitiesInRange rows (q .count) at) where
     pub rest-zero : RestZero used-groups q
     rest-zero = record {
       latitudes = λ e. r .unused (place.latitude 0) (idle-back (q .kind) (q .count) (layout.latitude 0) (omega arith) (omega arith) refl e);
@@ -153,7 +153,7 @@ module _ (q : ShapeQuantities) where
 
     -- ---- 8
 
-    pub sizes-covered : Covered rows at → SizesCovered q
+    pub sizes-covered : QuantitiesCovered rows at → SizesCovered q
     sizes-covered c = record {
       uncertainties = kept field.uncertainty refl (q .uncertainty) 8 _ (c .used place.uncertainty) (r .unused place.uncertainty);
       semi-majors = kept field.uncertainty refl (q .«semi_major») 8 _ (c .used place.semiMajor) (r .unused place.semiMajor);
@@ -181,14 +181,14 @@ module _ (q : ShapeQuantities) where
     covered-used place.speedUncertainty u = none layout.speedUncertainty refl u
     covered-used place.verticalUncertainty u = none layout.verticalUncertainty refl u
 
-    covered : Covered rows at
+    covered : QuantitiesCovered rows at
     covered = record { used = covered-used }
 
   -- ---- the record
 
-  module _ (r : Ranged) (s : Sizes) (p : Points) (x : Shape) (kept-all : InRange rows (q .count) at) (ranged : RangedCodes (used-groups .arc) q r) (sized : SizeCodes q s) (points : PointsCodes (q .latitudes) (q .longitudes) (q .count) p) (outline : Outlined q r s x) where
+  module _ (r : Ranged) (s : Sizes) (p : Points) (x : Shape) (kept-all : QuantitiesInRange rows (q .count) at) (ranged : RangedCodes (used-groups .arc) q r) (sized : SizeCodes q s) (points : PointsCodes (q .latitudes) (q .longitudes) (q .count) p) (outline : Outlined q r s x) where
     abbrev joined : Shape
-    joined = pointed (outlineJoined (q .kind) (q .count) (outline .altitude) (outline .inner-radius) r s) p
+    joined = withPoints (outlineJoined (q .kind) (q .count) (outline .altitude) (outline .inner-radius) r s) p
 
     points-are : pointsOf (q .kind) (q .count) ≡ q .count
     points-are = points-counted (q .kind) (q .count) (kept-all .uncounted)
@@ -235,10 +235,10 @@ module _ (q : ShapeQuantities) where
     each-unused place.speedUncertainty e = refl
     each-unused place.verticalUncertainty e = refl
 
-    pub shape-done : Formed q → CodesShape q (record { outcome = Done; shape = pointed x p })
+    pub shape-done : Formed q → CodesShape q (record { outcome = Done; shape = withPoints x p })
     shape-done formed = record {
       answer = met (formed .listed) (met (formed .counted) (met kept-all (met (covered s sized) refl)));
-      shape = subst (λ (y : Shape). RecordOf q (pointed y p)) (sym (outline .joined))
+      shape = subst (λ (y : Shape). RecordOf q (withPoints y p)) (sym (outline .joined))
           (record { kinds = refl; counts = refl; all-latitudes = points .all-latitudes; all-longitudes = points .all-longitudes; each = record { used = each-used; unused = each-unused } });
     }
 
@@ -251,8 +251,8 @@ module _ (q : ShapeQuantities) where
       shape = subst (λ (o : Outcome). Given o (RecordOf q (x .shape)) (x .shape ≡ blankShape Nothing)) (sym (h .outcome)) (h .shape);
     }
 
-    pub out-of-range : Formed q → RefusedShape OutOfRange x → (InRange rows (q .count) at → ⊥) → CodesShape q x
+    pub out-of-range : Formed q → RefusedShape OutOfRange x → (QuantitiesInRange rows (q .count) at → ⊥) → CodesShape q x
     out-of-range formed h n = refused-with OutOfRange h (met (formed .listed) (met (formed .counted) (unmet n refl)))
 
-    pub too-large : Formed q → InRange rows (q .count) at → RefusedShape UncertaintyTooLarge x → (SizesCovered q → ⊥) → CodesShape q x
+    pub too-large : Formed q → QuantitiesInRange rows (q .count) at → RefusedShape UncertaintyTooLarge x → (SizesCovered q → ⊥) → CodesShape q x
     too-large formed r h n = refused-with UncertaintyTooLarge h (met (formed .listed) (met (formed .counted) (met r (unmet (λ c. n (sizes-covered r c)) refl))))

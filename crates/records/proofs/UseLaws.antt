@@ -1,5 +1,5 @@
 -- Which places a kind uses: a place has bits just where its group is used, and a polygon's point where it is one of the first n.
--- Assumes nothing.
+--
 use Prim.Native.Nat.{ℕ, suc, _<_, _≤_}
 use mathlib.Core.Path.{_≡_, refl, sym, _∙_}
 use mathlib.Core.Bool.{Bool, true, false}
@@ -8,14 +8,14 @@ use lib.Dec.{ltb}
 use borrow.Author.Tests.{ltb-true, ltb-false, lt-ltb, le-ltb}
 use Rattle.layout.specs.declared.shape.Kind.{Kind}
 use Rattle.layout.specs.declared.shape.Kind.the-variants.{Nothing, Point, Circle, Ellipse, Polygon, AltitudePoint, AltitudeEllipsoid, Arc}
-use Rattle.layout.specs.Layout.{Field, count, latitude, longitude, semiMajor, semiMinor, orientation, innerRadius, offset, included, shapeRows}
+use Rattle.layout.specs.Layout.{MessageField, count, latitude, longitude, semiMajor, semiMinor, orientation, innerRadius, offset, included, shapeRows}
 use Rattle.layout.specs.Rows.{tag, widthOf}
 use Rattle.layout.specs.Demands.{Used}
 use Rattle.layout.proofs.KindLaws.{pointsOf, point-width, no-point-width, fixed-width}
 use Rattle.quantities.specs.Places.{Unused}
 use Rattle.quantities.proofs.UnusedLaws.{used-point, unused-point}
 use Rattle.quantities.proofs.TestLaws.{no-bits, no-bits-back}
-use Rattle.unused.specs.Kinds.{uses}
+use Rattle.outline_codes.specs.Kinds.{uses}
 
 -- ---- the groups
 
@@ -37,7 +37,7 @@ grouped AltitudeEllipsoid = record { longitudes = refl; semi-minors = refl; orie
 grouped Arc = record { longitudes = refl; semi-minors = refl; orientations = refl; offsets = refl; includeds = refl }
 
 -- a place that is no point's, in the group of g
-module _ (k : Kind) (n : ℕ) (f : Field) (low : 2 ≤ tag f) (high : tag f < 22) {g : Bool} (same : uses k f ≡ g) where
+module _ (k : Kind) (n : ℕ) (f : MessageField) (low : 2 ≤ tag f) (high : tag f < 22) {g : Bool} (same : uses k f ≡ g) where
   pub idle : Unused (shapeRows k n) f → g ≡ false
   idle e = sym same ∙ no-bits _ (sym (fixed-width k n f low high) ∙ e)
 

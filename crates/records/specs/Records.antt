@@ -1,4 +1,4 @@
--- A record with its points, and the record of a refusal. Assumes nothing.
+-- A record with its points, and the record of a refusal.
 use mathlib.Core.Path.{_≡_}
 use Rattle.ground.specs.declared.refusals.Refusal.{Refusal}
 use Rattle.ground.specs.declared.refusals.Outcome.the-variants.{Refused}
@@ -6,11 +6,11 @@ use Rattle.layout.specs.declared.shape.Kind.the-variants.{Nothing}
 use Rattle.layout.specs.declared.shape.Shape.{Shape}
 use Rattle.layout.specs.Shapes.{blankShape}
 use Rattle.quantities.specs.declared.shape.ShapeCoded.{ShapeCoded}
-use Rattle.groups.specs.declared.points.Points.{Points}
+use Rattle.outline_codes.specs.declared.points.Points.{Points}
 
 -- a record with these points
-abbrev pub pointed : Shape → Points → Shape
-pointed x p = record {
+abbrev pub withPoints : Shape → Points → Shape
+withPoints x p = record {
   kind = x .kind;
   latitude = x .latitude;
   longitude = x .longitude;

@@ -3,11 +3,11 @@ use ground::Outcome;
 use ground::Refusal;
 use layout::Kind;
 ghost use Rattle.ground.specs.Answers.{outcomeNumber};
-ghost use Rattle.records.specs.Kinds.{FormAnswer};
+ghost use Rattle.records.specs.Kinds.{QuantitiesFormAnswer};
 
 // 2 and 4.
 pub fn form(kind: Kind, count: u8) -> Outcome
-    ensures { λ r. ⌜ FormAnswer kind count (outcomeNumber r) ⌝ }
+    ensures { λ r. ⌜ QuantitiesFormAnswer kind count (outcomeNumber r) ⌝ }
 {
     match kind {
         Kind::Nothing => Outcome::Refused(Refusal::UnknownType),

@@ -2,9 +2,9 @@
 use crate::kinds;
 use ground::Outcome;
 use ground::Refusal;
-use groups::RangedCoded;
-use groups::SizesCoded;
 use layout::Kind;
+use outline_codes::RangedCoded;
+use outline_codes::SizesCoded;
 use quantities::ShapeCoded;
 use quantities::ShapeQuantities;
 ghost use Rattle.quantities.specs.Shapes.{CodesShape};
@@ -28,26 +28,26 @@ fn coded(quantities: ShapeQuantities) -> ShapeCoded
     ensures { λ r. ⌜ CodesShape quantities r ⌝ }
 {
     let kind = quantities.kind;
-    let uses = unused::used_by(kind);
-    if !unused::is_zero(uses, quantities) {
+    let uses = outline_codes::used_by(kind);
+    if !outline_codes::is_zero(uses, quantities) {
         return refused(Refusal::OutOfRange);
     }
     if quantities.semi_major.0 < quantities.semi_minor.0 {
         return refused(Refusal::OutOfRange);
     }
-    let RangedCoded::Codes(ranged) = groups::code_ranges(uses.arc, quantities) else {
+    let RangedCoded::Codes(ranged) = outline_codes::code_ranges(uses.arc, quantities) else {
         return refused(Refusal::OutOfRange);
     };
     let latitudes = quantities.latitudes;
     let longitudes = quantities.longitudes;
-    let points = groups::code_points(latitudes, longitudes, quantities.count);
+    let points = outline_codes::code_points(latitudes, longitudes, quantities.count);
     if !points.in_range {
         return refused(Refusal::OutOfRange);
     }
-    let SizesCoded::Codes(sizes) = groups::code_sizes(quantities) else {
+    let SizesCoded::Codes(sizes) = outline_codes::code_sizes(quantities) else {
         return refused(Refusal::UncertaintyTooLarge);
     };
-    let mut shape = groups::outlined(quantities, ranged, sizes);
+    let mut shape = outline_codes::outlined(quantities, ranged, sizes);
     let latitudes = points.latitudes;
     let longitudes = points.longitudes;
     shape.latitudes = latitudes;

@@ -1,4 +1,4 @@
--- What is reported of the codes of a velocity that the writer takes are its quantities. Assumes nothing.
+-- What is reported of the codes of a velocity that the writer takes are its quantities.
 use mathlib.Core.Path.{_≡_, refl}
 use mathlib.Core.Bool.{true}
 use native.Mathlib.Omega.{arith}
@@ -6,10 +6,10 @@ use Rattle.ground.specs.Answers.{done}
 use Rattle.fields.specs.Fields.{Reporting}
 use Rattle.fields.specs.Fields as field
 use Rattle.layout.specs.declared.velocity.Velocity.{Velocity}
-use Rattle.layout.specs.Layout.{Field, velocityRows}
+use Rattle.layout.specs.Layout.{MessageField, velocityRows}
 use Rattle.layout.specs.Layout as layout
 use Rattle.layout.specs.Demands.{Used}
-use Rattle.trips.proofs.WidthLaws.{velocityWidest, velocity-width}
+use Rattle.layout.proofs.WidthLaws.{velocityWidest, velocity-width}
 use Rattle.quantities.specs.declared.velocity.VelocityQuantities.{VelocityQuantities}
 use Rattle.quantities.specs.Places.{
   Place,
@@ -46,7 +46,7 @@ module _ (x : Velocity) (t : TakesVelocity x) where
       (verticals : Reporting field.verticalSpeed (x .«vertical_speed») (done (q .«vertical_speed»)))
       (uncertainties : Reporting field.uncertaintySpeed (x .uncertainty) (done (q .uncertainty)))
       (vertical-uncertainties : Reporting field.uncertaintySpeed (x .«vertical_uncertainty») (done (q .«vertical_uncertainty»))) where
-    no-motion : (f : Field) → velocityWidest f ≡ 0 → Used (velocityRows (x .kind)) f → ⊥
+    no-motion : (f : MessageField) → velocityWidest f ≡ 0 → Used (velocityRows (x .kind)) f → ⊥
     no-motion f e u = let l = velocity-width (x .kind) f in absurd (omega arith)
 
     motion-used : (p : Place) → Used (velocityRows (x .kind)) (rowOf p) → Reporting (fieldOf p) (velocityCodeAt x p) (done (velocityQuantityAt q p))

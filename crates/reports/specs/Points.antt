@@ -1,4 +1,4 @@
--- The codes of a polygon's points that their fields hold. Assumes nothing.
+-- The codes of a polygon's points that their fields hold.
 use mathlib.Core.List.{List}
 use Prim.Native.Nat.{ℕ, _<_}
 use lib.ListN.{getD}

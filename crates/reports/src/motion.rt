@@ -12,7 +12,7 @@ pub fn quantities_of(velocity: Velocity) -> VelocityQuantities
     let vertical_uncertainty = speeds::reported_uncertainty_speed(velocity.vertical_uncertainty);
     VelocityQuantities {
         kind,
-        bearing: spoken::bearing(velocity.bearing),
+        bearing: field_reports::bearing(velocity.bearing),
         horizontal_speed: speeds::reported_horizontal_speed(velocity.horizontal_speed),
         vertical_speed: speeds::reported_vertical_speed(velocity.vertical_speed),
         uncertainty,

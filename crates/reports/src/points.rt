@@ -3,7 +3,7 @@ use ground::LatitudeCode;
 use ground::LongitudeCode;
 use ground::Nanodegrees;
 ghost use Prim.Native.Nat.{_≤_};
-ghost use Rattle.spoken_shapes.specs.Points.{LatitudesReported, LongitudesReported};
+ghost use Rattle.field_reports.specs.Points.{LatitudesReported, LongitudesReported};
 ghost use Rattle.reports.specs.Points.{LatitudesHeld, LongitudesHeld};
 
 // The latitudes of the first n, and zeros.
@@ -17,7 +17,7 @@ pub fn latitudes(codes: [LatitudeCode; 15], n: u8) -> [Nanodegrees; 15]
     let mut i = 0;
     while i < end {
         let code = codes[i];
-        reported[i] = spoken::latitude(code);
+        reported[i] = field_reports::latitude(code);
         i += 1;
     }
     reported
@@ -34,7 +34,7 @@ pub fn longitudes(codes: [LongitudeCode; 15], n: u8) -> [Nanodegrees; 15]
     let mut i = 0;
     while i < end {
         let turn = codes[i];
-        reported[i] = spoken::longitude(turn);
+        reported[i] = field_reports::longitude(turn);
         i += 1;
     }
     reported

@@ -12,7 +12,7 @@ pub fn quantities_of(shape: Shape) -> ShapeQuantities
     let longitudes = shape.longitudes;
     let reported_latitudes = points::latitudes(latitudes, shape.count);
     let reported_longitudes = points::longitudes(longitudes, shape.count);
-    let mut quantities = spoken_shapes::outline(shape);
+    let mut quantities = field_reports::outline(shape);
     quantities.latitudes = reported_latitudes;
     quantities.longitudes = reported_longitudes;
     quantities

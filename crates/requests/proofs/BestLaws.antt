@@ -1,7 +1,7 @@
--- FROM RECORDS TO MESSAGES: what is the best message of one kind, and which kind is best, over all octet strings. Assumes nothing.
-use Prim.Native.Nat.{ℕ, _≤_, _<_}
+-- FROM RECORDS TO MESSAGES: what is the best message of one kind, and which kind is best, over all octet strings.
+use Prim.Native.Nat.{ℕ}
 use mathlib.Core.Path.{_≡_, refl, sym, ap, _∙_, subst}
-use mathlib.Core.List.{List, []}
+use mathlib.Core.List.{List}
 use native.Mathlib.Omega.{arith}
 use lib.ListN.{length}
 use Rattle.layout.specs.declared.shape.Kind.{Kind}
@@ -12,12 +12,12 @@ use Rattle.layout.specs.Rows.{lengthOf, message, spareZero}
 use Rattle.layout.specs.Shapes.{rowsIn, shapeIn, rowsOf, valueOf}
 use Rattle.layout.proofs.TidyLaws.{message-length, message-octets}
 use Rattle.layout.proofs.DemandLaws.{Readable, readable, read-done}
-use Rattle.trips.proofs.ShapeTrips.{message-read, rows-read, readable-message, record-message}
+use Rattle.layout.proofs.ShapeTrips.{message-read, rows-read, readable-message, record-message}
 use Rattle.requests.specs.declared.Request.{Request}
 use Rattle.requests.specs.declared.codes.Wanted.{Wanted}
 use Rattle.requests.specs.Holding.{Holds}
 use Rattle.requests.specs.Choice.{TakesPart, Candidate, Before, rank, Better, Best}
-use Rattle.requests.specs.Codes.{CodesOf, Fits, Tame, Able, recordOf, messageOf, rankOf, BestKind}
+use Rattle.requests.specs.Codes.{CodesOf, Fits, Tame, Able, wantedRecord, messageOf, rankOf, BestKind}
 use Rattle.requests.proofs.HoldingLaws.{fitted, holding}
 use Rattle.requests.proofs.OrderLaws.{not-before-trans}
 use Rattle.requests.proofs.KindLaws.{by-kind, part-rows, fits-able, none-lower}
@@ -29,8 +29,8 @@ length-of s r part = r .long ∙ ap lengthOf (sym (rows-read s r) ∙ part-rows 
 
 module _ (w : Wanted) (t : Tame w) where
   -- the record of a kind that can hold what is wanted fits it
-  record-fits : (k : Kind) → TakesPart k → Able w k → Fits w (recordOf k w)
-  record-fits = by-kind (λ k. Able w k → Fits w (recordOf k w))
+  record-fits : (k : Kind) → TakesPart k → Able w k → Fits w (wantedRecord k w)
+  record-fits = by-kind (λ k. Able w k → Fits w (wantedRecord k w))
       (λ a. record { latitudes = record-latitude Point w tt t; longitudes = record-longitude Point w tt t; altitudes = sym (a .altitudes); areas = sym (a .areas); heights = sym (a .heights); confidences = a .confidences refl })
       (λ a. record { latitudes = record-latitude Circle w tt t; longitudes = record-longitude Circle w tt t; altitudes = sym (a .altitudes); areas = (sym (a .areas), omega arith); heights = sym (a .heights); confidences = a .confidences refl })
       (λ a. record { latitudes = record-latitude Ellipse w tt t; longitudes = record-longitude Ellipse w tt t; altitudes = sym (a .altitudes); areas = (sym (a .areas), omega arith, omega arith, refl); heights = sym (a .heights); confidences = refl })
@@ -40,17 +40,17 @@ module _ (w : Wanted) (t : Tame w) where
   -- ---- the message of a kind
 
   module _ (k : Kind) (part : TakesPart k) where
-    message-back : shapeIn (messageOf k w) ≡ recordOf k w
-    message-back = record-message (recordOf k w) (record-sound k w part t) (record-whole k w part t)
+    message-back : shapeIn (messageOf k w) ≡ wantedRecord k w
+    message-back = record-message (wantedRecord k w) (record-sound k w part t) (record-whole k w part t)
 
     message-readable : Readable (rowsIn (messageOf k w)) (messageOf k w)
-    message-readable = readable-message (recordOf k w) (record-sound k w part t)
+    message-readable = readable-message (wantedRecord k w) (record-sound k w part t)
 
     pub message-long : length (messageOf k w) ≡ lengthOf (shapeRows k 0)
-    message-long = message-length (rowsOf (recordOf k w)) (valueOf (recordOf k w)) ∙ ap lengthOf (record-rows k w part t)
+    message-long = message-length (rowsOf (wantedRecord k w)) (valueOf (wantedRecord k w)) ∙ ap lengthOf (record-rows k w part t)
 
     pub message-rank : rank (shapeIn (messageOf k w)) (length (messageOf k w)) ≡ rankOf k w
-    message-rank = ap (λ (x : Shape). rank x (length (messageOf k w))) message-back ∙ ap (rank (recordOf k w)) message-long
+    message-rank = ap (λ (x : Shape). rank x (length (messageOf k w))) message-back ∙ ap (rank (wantedRecord k w)) message-long
 
 module _ (q : Request) (w : Wanted) (p : CodesOf q w) (t : Tame w) where
   candidate-able : {taken : Kind → Type 0} (s : List ℕ) → Candidate q taken s → Able w (shapeIn s .kind)
@@ -65,11 +65,11 @@ module _ (q : Request) (w : Wanted) (p : CodesOf q w) (t : Tame w) where
     own-candidate taken l =
         let back = message-back w t k (a .part) in
         record {
-          octets = message-octets (rowsOf (recordOf k w)) (valueOf (recordOf k w));
+          octets = message-octets (rowsOf (wantedRecord k w)) (valueOf (wantedRecord k w));
           readable = read-done (rowsIn (messageOf k w)) (messageOf k w) (message-readable w t k (a .part));
           part = subst (λ (x : Shape). TakesPart (x .kind)) (sym back) (a .part);
           listed = subst (λ (x : Shape). taken (x .kind)) (sym back) l;
-          holds = subst (Holds q) (sym back) (holding q w p (recordOf k w) (record-fits w t k (a .part) a));
+          holds = subst (Holds q) (sym back) (holding q w p (wantedRecord k w) (record-fits w t k (a .part) a));
         }
 
     -- no message of the kind is better

@@ -1,4 +1,4 @@
--- What a field's coder leaves of a quantity: a code of the field, and then no refusal. Assumes nothing.
+-- What a field's coder leaves of a quantity: a code of the field, and then no refusal.
 use Prim.Native.Nat.{ℕ}
 use native.Mathlib.Omega.{arith}
 use Rattle.ground.specs.Answers.{done, refused}

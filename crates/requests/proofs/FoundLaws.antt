@@ -1,6 +1,6 @@
 -- WHICH KIND IS BEST, by what is asked: at most one kind can hold a request, but for an area alone, which a circle and an ellipse
--- can. Assumes nothing.
-use Prim.Native.Nat.{ℕ, _≤_, _<_}
+-- can.
+use Prim.Native.Nat.{_≤_, _<_}
 use mathlib.Core.Path.{_≡_, refl, sym, _∙_, subst}
 use mathlib.Core.Bool.{true, false}
 use native.Mathlib.Omega.{arith}

@@ -1,7 +1,7 @@
--- Where w has the codes of q, a record holds q exactly when it fits w. Assumes nothing.
+-- Where w has the codes of q, a record holds q exactly when it fits w.
 use Prim.Native.Nat.{ℕ, _≤_, _<_}
-use mathlib.Core.Path.{_≡_, refl, sym, ap, _∙_, subst}
-use mathlib.Core.Bool.{Bool, true, false}
+use mathlib.Core.Path.{_≡_, sym, ap, _∙_, subst}
+use mathlib.Core.Bool.{true, false}
 use native.Mathlib.Omega.{arith}
 use lib.Dec.{T}
 use Rattle.ground.specs.Answers.{done}

@@ -1,10 +1,9 @@
--- WHICH KINDS can hold a request, and that the record of a kind is the best of that kind, over codes. Assumes nothing.
-use Prim.Native.Nat.{ℕ, _≤_, _<_}
-use mathlib.Core.Path.{_≡_, refl, sym, ap, _∙_, subst}
+-- WHICH KINDS can hold a request, and that the record of a kind is the best of that kind, over codes.
+use Prim.Native.Nat.{ℕ, _≤_}
+use mathlib.Core.Path.{_≡_, refl, sym, ap, subst}
 use mathlib.Core.Bool.{Bool, true, false, cond}
 use mathlib.Core.List.{List, [], _∷_}
 use native.Mathlib.Omega.{arith}
-use lib.Dec.{ltb}
 use Rattle.ground.specs.declared.code.AltitudeCode.{AltitudeCode}
 use Rattle.ground.specs.declared.code.AltitudeUncertaintyCode.{AltitudeUncertaintyCode}
 use Rattle.ground.specs.declared.code.ConfidenceCode.{ConfidenceCode}
@@ -12,7 +11,7 @@ use Rattle.layout.specs.declared.shape.Kind.{Kind}
 use Rattle.layout.specs.declared.shape.Kind.the-variants.{Nothing, Point, Circle, Ellipse, Polygon, AltitudePoint, AltitudeEllipsoid, Arc}
 use Rattle.layout.specs.declared.shape.Shape.{Shape}
 use Rattle.layout.specs.Layout.{Row, shapeRows, semiMajor, uncertainty}
-use Rattle.layout.specs.Rows.{widthOf, lengthOf}
+use Rattle.layout.specs.Rows.{lengthOf}
 use Rattle.layout.specs.Shapes.{rowsOf}
 use Rattle.requests.specs.declared.codes.AltitudeWanted.{AltitudeWanted}
 use Rattle.requests.specs.declared.codes.AreaWanted.{AreaWanted}
@@ -20,7 +19,7 @@ use Rattle.requests.specs.declared.codes.AltitudeUncertaintyWanted.{Alti
 use Rattle.requests.specs.declared.codes.Wanted.{Wanted}
 use Rattle.requests.specs.Holding.{has, hasNot, circle, ellipse, noArea, altitudeHad, areaHad, altitudeUncertaintyHad, confidenceHad}
 use Rattle.requests.specs.Choice.{TakesPart, Before, rank, majorOf, minorOf, heightOf}
-use Rattle.requests.specs.Codes.{hasRow, FitsAltitude, FitsArea, FitsAltitudeUncertainty, FitsConfidence, Fits, Able, recordOf, rankOf, BestKind}
+use Rattle.requests.specs.Codes.{hasRow, FitsAltitude, FitsArea, FitsAltitudeUncertainty, FitsConfidence, Fits, Able, rankOf}
 use Rattle.requests.proofs.HoldingLaws.{differ}
 use Rattle.requests.proofs.OrderLaws.{ended, place}
 

@@ -1,8 +1,10 @@
-pub mod CodedLaws
-pub mod HoldingLaws
-pub mod OrderLaws
-pub mod KindLaws
-pub mod RecordLaws
 pub mod BestLaws
-pub mod TameLaws
+pub mod CodedLaws
 pub mod FoundLaws
+pub mod HoldingLaws
+pub mod KindLaws
+pub mod OneChoice
+pub mod OneMessage
+pub mod OrderLaws
+pub mod RecordLaws
+pub mod TameLaws

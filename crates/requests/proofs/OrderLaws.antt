@@ -1,4 +1,4 @@
--- The order of better: numbers are compared place by place. Assumes nothing.
+-- The order of better: numbers are compared place by place.
 use Prim.Native.Nat.{ℕ, _≤_, _<_}
 use mathlib.Core.Path.{_≡_, sym, refl}
 use mathlib.Core.List.{List, [], _∷_}

@@ -1,5 +1,5 @@
--- The record of a kind with the wanted codes is one that the writer takes. Assumes nothing.
-use Prim.Native.Nat.{ℕ, zero, suc, _^_, _≤_, _<_}
+-- The record of a kind with the wanted codes is one that the writer takes.
+use Prim.Native.Nat.{ℕ, zero, suc, _^_, _<_}
 use mathlib.Core.Path.{_≡_, refl, sym, ap, _∙_, subst}
 use mathlib.Core.Bool.{Bool, true, false, cond, _&&_}
 use mathlib.Core.List.{List, [], _∷_}
@@ -16,9 +16,8 @@ use Rattle.octets.specs.Codes.{bitOf, signOf, complement, fromComplement}
 use Rattle.octets.proofs.ComplementLaws.{complement-back}
 use Rattle.layout.specs.declared.shape.Kind.{Kind}
 use Rattle.layout.specs.declared.shape.Kind.the-variants.{AltitudePoint, AltitudeEllipsoid}
-use Rattle.layout.specs.declared.shape.Shape.{Shape}
 use Rattle.layout.specs.Layout.{
-  Field,
+  MessageField,
   typeNumber,
   count,
   south,
@@ -45,18 +44,18 @@ use Rattle.layout.specs.Layout.{
   shapeRows,
   typeOf,
 }
-use Rattle.layout.specs.Rows.{tag, widthOf, lengthOf}
-use Rattle.layout.specs.Demands.{Listed, CountSound, AnglesSound, ConfidenceSound, InFields}
+use Rattle.layout.specs.Rows.{tag, widthOf}
+use Rattle.layout.specs.Demands.{TypeKnown}
 use Rattle.layout.specs.Shapes.{rowsOf, valueOf, latitudeOf, longitudeOf}
 use Rattle.layout.proofs.FieldLaws.{tag-one}
 use Rattle.layout.proofs.KindLaws.{type-small}
 use Rattle.layout.proofs.TidyLaws.{both}
 use Rattle.layout.proofs.DemandLaws.{Sound}
-use Rattle.trips.proofs.ShapeRecords.{sign-back, length-upto, values-of, Fifteen}
-use Rattle.trips.proofs.WidthLaws.{shapeWidest}
+use Rattle.layout.proofs.ShapeRecords.{sign-back, length-upto, values-of, Fifteen}
+use Rattle.layout.proofs.WidthLaws.{shapeWidest}
 use Rattle.requests.specs.declared.codes.Wanted.{Wanted}
 use Rattle.requests.specs.Choice.{TakesPart}
-use Rattle.requests.specs.Codes.{Tame, numberOf, rowNumber, recordOf}
+use Rattle.requests.specs.Codes.{Tame, wantedNumber, rowNumber, wantedRecord}
 use Rattle.requests.proofs.KindLaws.{by-kind, part-rows}
 
 -- ---- a kind that takes part has for each field no row, or one of all the bits that the field has in any shape
@@ -65,11 +64,11 @@ abbrev full : List Row → Bool
 full [] = true
 full (r ∷ rs) = eqb (r .width) (shapeWidest (r .field)) && full rs
 
-full-by : (b : Bool) (f g : Field) (w v : ℕ) → (b ≡ true → f ≡ g) → w ≡ shapeWidest g → ((v ≡ 0 → ⊥) → v ≡ shapeWidest f) → (cond b w v ≡ 0 → ⊥) → cond b w v ≡ shapeWidest f
+full-by : (b : Bool) (f g : MessageField) (w v : ℕ) → (b ≡ true → f ≡ g) → w ≡ shapeWidest g → ((v ≡ 0 → ⊥) → v ≡ shapeWidest f) → (cond b w v ≡ 0 → ⊥) → cond b w v ≡ shapeWidest f
 full-by true f g w v same e rest some = e ∙ ap shapeWidest (sym (same refl))
 full-by false f g w v same e rest some = rest some
 
-full-width : (rs : List Row) → full rs ≡ true → (f : Field) → (widthOf rs f ≡ 0 → ⊥) → widthOf rs f ≡ shapeWidest f
+full-width : (rs : List Row) → full rs ≡ true → (f : MessageField) → (widthOf rs f ≡ 0 → ⊥) → widthOf rs f ≡ shapeWidest f
 full-width [] h f some = absurd (some refl)
 full-width (r ∷ rs) h f some =
     let b = both _ _ h in
@@ -78,8 +77,8 @@ full-width (r ∷ rs) h f some =
 part-full : (k : Kind) → TakesPart k → full (shapeRows k 0) ≡ true
 part-full = by-kind (λ k. full (shapeRows k 0) ≡ true) refl refl refl refl refl
 
-part-listed : (k : Kind) → TakesPart k → Listed (shapeRows k 0)
-part-listed = by-kind (λ k. Listed (shapeRows k 0)) (omega arith) (omega arith) (omega arith) (omega arith) (omega arith)
+part-listed : (k : Kind) → TakesPart k → TypeKnown (shapeRows k 0)
+part-listed = by-kind (λ k. TypeKnown (shapeRows k 0)) (omega arith) (omega arith) (omega arith) (omega arith) (omega arith)
 
 part-uncounted : (k : Kind) → TakesPart k → widthOf (shapeRows k 0) count ≡ 0
 part-uncounted = by-kind (λ k. widthOf (shapeRows k 0) count ≡ 0) refl refl refl refl refl
@@ -103,7 +102,7 @@ at-most true n most h = omega arith
 at-most false n most h = h
 
 module _ (k : Kind) (w : Wanted) (part : TakesPart k) (t : Tame w) where
-  number-small : (f : Field) → numberOf k w f < 2 ^ shapeWidest f
+  number-small : (f : MessageField) → wantedNumber k w f < 2 ^ shapeWidest f
   number-small typeNumber = type-small k
   number-small (south zero) = sign-small (w .latitude .0)
   number-small (south (suc i)) = omega arith
@@ -131,13 +130,13 @@ module _ (k : Kind) (w : Wanted) (part : TakesPart k) (t : Tame w) where
   number-small verticalUncertainty = omega arith
 
   -- the kind has no row for it
-  abbrev none : Field → Bool
+  abbrev none : MessageField → Bool
   none f = eqb (widthOf (shapeRows k 0) f) 0
 
-  row-below : (f : Field) (most : ℕ) → numberOf k w f < most → rowNumber k w f < most
-  row-below f most = at-most (none f) (numberOf k w f) most
+  row-below : (f : MessageField) (most : ℕ) → wantedNumber k w f < most → rowNumber k w f < most
+  row-below f most = at-most (none f) (wantedNumber k w f) most
 
-  in-row : (f : Field) (b : Bool) → none f ≡ b → cond b 0 (numberOf k w f) < 2 ^ widthOf (shapeRows k 0) f
+  in-row : (f : MessageField) (b : Bool) → none f ≡ b → cond b 0 (wantedNumber k w f) < 2 ^ widthOf (shapeRows k 0) f
   in-row f true e = rw (eqb-true (widthOf (shapeRows k 0) f) 0 e) (omega arith)
   in-row f false e = rw (full-width (shapeRows k 0) (part-full k part) f (eqb-false (widthOf (shapeRows k 0) f) 0 e)) (number-small f)
 
@@ -146,10 +145,10 @@ module _ (k : Kind) (w : Wanted) (part : TakesPart k) (t : Tame w) where
 
   -- ---- the record's numbers are these
 
-  pub record-values : (f : Field) → valueOf (recordOf k w) f ≡ rowNumber k w f
+  pub record-values : (f : MessageField) → valueOf (wantedRecord k w) f ≡ rowNumber k w f
   record-values = values-of k (rowNumber k w) own-type (λ f. row-below f _ (number-small f)) (λ i h. (no-row (none (south (suc i))), no-row (none (latitude (suc i))), no-row (none (longitude (suc i)))))
 
-  pub record-rows : rowsOf (recordOf k w) ≡ shapeRows k 0
+  pub record-rows : rowsOf (wantedRecord k w) ≡ shapeRows k 0
   record-rows = part-rows k part (rowNumber k w count)
 
   sound-rows : Sound (shapeRows k 0) (rowNumber k w)
@@ -166,12 +165,12 @@ module _ (k : Kind) (w : Wanted) (part : TakesPart k) (t : Tame w) where
     fields = record { each = λ f. in-row f _ refl };
   }
 
-  pub record-sound : Sound (rowsOf (recordOf k w)) (valueOf (recordOf k w))
+  pub record-sound : Sound (rowsOf (wantedRecord k w)) (valueOf (wantedRecord k w))
   record-sound =
-      subst (λ (rows : List Row). Sound rows (valueOf (recordOf k w))) (sym record-rows)
-      (subst (λ (v : Field → ℕ). Sound (shapeRows k 0) v) (λ i f. sym (record-values f) i) sound-rows)
+      subst (λ (rows : List Row). Sound rows (valueOf (wantedRecord k w))) (sym record-rows)
+      (subst (λ (v : MessageField → ℕ). Sound (shapeRows k 0) v) (λ i f. sym (record-values f) i) sound-rows)
 
-  pub record-whole : Fifteen (recordOf k w)
+  pub record-whole : Fifteen (wantedRecord k w)
   record-whole = record { all-latitudes = length-upto (λ i. latitudeOf (rowNumber k w) (suc i)) 15; all-longitudes = length-upto (λ i. longitudeOf (rowNumber k w) (suc i)) 15 }
 
   -- ---- its codes are the wanted ones
@@ -179,21 +178,21 @@ module _ (k : Kind) (w : Wanted) (part : TakesPart k) (t : Tame w) where
   same-latitude : _≡_ {A = LatitudeCode} (record { 0 = signOf (bitOf (w .latitude .0)); 1 = w .latitude .1 }) (w .latitude)
   same-latitude = λ j. record { 0 = sign-back (w .latitude .0) j; 1 = w .latitude .1 }
 
-  pub record-latitude : recordOf k w .latitude ≡ w .latitude
-  record-latitude = by-kind (λ j. recordOf j w .latitude ≡ w .latitude) same-latitude same-latitude same-latitude same-latitude same-latitude k part
+  pub record-latitude : wantedRecord k w .latitude ≡ w .latitude
+  record-latitude = by-kind (λ j. wantedRecord j w .latitude ≡ w .latitude) same-latitude same-latitude same-latitude same-latitude same-latitude k part
 
   same-longitude : _≡_ {A = LongitudeCode} (record { 0 = fromComplement (complement (w .longitude .0)) }) (w .longitude)
   same-longitude = λ j. record { 0 = complement-back (w .longitude .0) (turn-small (w .longitude .0) (t .longitudes)) j }
 
-  pub record-longitude : recordOf k w .longitude ≡ w .longitude
-  record-longitude = by-kind (λ j. recordOf j w .longitude ≡ w .longitude) same-longitude same-longitude same-longitude same-longitude same-longitude k part
+  pub record-longitude : wantedRecord k w .longitude ≡ w .longitude
+  record-longitude = by-kind (λ j. wantedRecord j w .longitude ≡ w .longitude) same-longitude same-longitude same-longitude same-longitude same-longitude k part
 
 module _ (w : Wanted) where
   same-altitude : _≡_ {A = AltitudeCode} (record { 0 = signOf (bitOf (w .altitude .code .0)); 1 = w .altitude .code .1 }) (w .altitude .code)
   same-altitude = λ j. record { 0 = sign-back (w .altitude .code .0) j; 1 = w .altitude .code .1 }
 
-  pub point-altitude : recordOf AltitudePoint w .altitude ≡ w .altitude .code
+  pub point-altitude : wantedRecord AltitudePoint w .altitude ≡ w .altitude .code
   point-altitude = same-altitude
 
-  pub ellipsoid-altitude : recordOf AltitudeEllipsoid w .altitude ≡ w .altitude .code
+  pub ellipsoid-altitude : wantedRecord AltitudeEllipsoid w .altitude ≡ w .altitude .code
   ellipsoid-altitude = same-altitude

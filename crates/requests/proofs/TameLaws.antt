@@ -1,6 +1,5 @@
--- The codes of a request are tame. Assumes nothing.
-use Prim.Native.Nat.{ℕ}
-use mathlib.Core.Path.{_≡_, ap}
+-- The codes of a request are tame.
+use mathlib.Core.Path.{ap}
 use native.Mathlib.Omega.{arith}
 use Rattle.ground.specs.declared.code.AltitudeCode.{AltitudeCode}
 use Rattle.fields.specs.Fields as field

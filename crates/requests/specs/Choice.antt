@@ -1,4 +1,4 @@
--- THE CHOICE of shape for one point, over all octet strings: demand 3. Assumes nothing.
+-- THE CHOICE of shape for one point, over all octet strings: demand 3.
 use mathlib.Core.Path.{_≡_}
 use mathlib.Core.List.{List, [], _∷_, _++_}
 use Prim.Native.Nat.{ℕ, _/_, _%_, _^_, _≤_, _<_}
@@ -14,7 +14,7 @@ use Rattle.layout.specs.Rows.{spareZero}
 use Rattle.layout.specs.Demands.{ReadAnswer}
 use Rattle.layout.specs.Shapes.{rowsIn, shapeIn, rowsOf}
 use Rattle.requests.specs.declared.Request.{Request}
-use Rattle.requests.specs.Ranges.{InRange, Covered}
+use Rattle.requests.specs.Ranges.{RequestInRange, RequestCovered}
 use Rattle.requests.specs.Holding.{Had, has, hasNot, Area, circle, ellipse, noArea, areaHad, altitudeUncertaintyHad, Holds}
 
 -- ---- which messages are looked at
@@ -82,15 +82,15 @@ pub record Best (q : Request) (taken : Kind → Type 0) (s : List ℕ) : Type 0 
 
 -- why there is no message, whatever the buffer, by the number of the answer
 pub data Refuses (q : Request) (taken : Kind → Type 0) : ℕ → Type 0 where
-  out-of-range : (InRange q → ⊥) → Refuses q taken 7
-  too-uncertain : InRange q → (Covered q → ⊥) → Refuses q taken 8
-  none-holds : InRange q → Covered q → ((s : List ℕ) → Candidate q taken s → ⊥) → Refuses q taken 9
+  out-of-range : (RequestInRange q → ⊥) → Refuses q taken 7
+  too-uncertain : RequestInRange q → (RequestCovered q → ⊥) → Refuses q taken 8
+  none-holds : RequestInRange q → RequestCovered q → ((s : List ℕ) → Candidate q taken s → ⊥) → Refuses q taken 9
 
 -- the answer's number, how many octets are written, and the buffer after
 pub data Chosen (q : Request) (taken : Kind → Type 0) (before : List ℕ) : ℕ → ℕ → List ℕ → Type 0 where
   refuses : {n : ℕ} → Refuses q taken n → Chosen q taken before n 0 before
-  too-short : {s : List ℕ} → InRange q → Covered q → Best q taken s → length before < length s → Chosen q taken before 10 0 before
-  writes : {s : List ℕ} → InRange q → Covered q → Best q taken s → length s ≤ length before → Chosen q taken before 0 (length s) (s ++ drop (length s) before)
+  too-short : {s : List ℕ} → RequestInRange q → RequestCovered q → Best q taken s → length before < length s → Chosen q taken before 10 0 before
+  writes : {s : List ℕ} → RequestInRange q → RequestCovered q → Best q taken s → length s ≤ length before → Chosen q taken before 0 (length s) (s ++ drop (length s) before)
 
 abbrev pub Chooses : Request → (Kind → Type 0) → List ℕ → List ℕ → Written → Type 0
 Chooses q taken before after r = Chosen q taken before (outcomeNumber (r .outcome)) (r .length) after

@@ -1,5 +1,5 @@
 -- A request as codes, the kinds that can hold it, and the record of each: what the choice is made from. That these say what
--- holding and better say is a law (proofs/). Assumes nothing.
+-- holding and better say is a law (proofs/).
 use mathlib.Core.Path.{_≡_}
 use mathlib.Core.Bool.{Bool, true, false, cond}
 use mathlib.Core.List.{List}
@@ -18,7 +18,7 @@ use Rattle.octets.specs.Codes.{bitOf, complement}
 use Rattle.layout.specs.declared.shape.Kind.{Kind}
 use Rattle.layout.specs.declared.shape.Shape.{Shape}
 use Rattle.layout.specs.Layout.{
-  Field,
+  MessageField,
   typeNumber,
   count,
   south,
@@ -136,7 +136,7 @@ pub record Tame (w : Wanted) : Type 0 where
 -- ---- which kinds can hold it
 
 -- the kind's layout has a row for the field
-abbrev pub hasRow : Kind → Field → Bool
+abbrev pub hasRow : Kind → MessageField → Bool
 hasRow k f = ltb 0 (widthOf (shapeRows k 0) f)
 
 abbrev pub hasArea : Kind → Bool
@@ -152,47 +152,47 @@ pub record Able (w : Wanted) (k : Kind) : Type 0 where
 
 -- ---- the best message of one kind: the codes that are wanted, in the rows that the kind has
 
-abbrev pub numberOf : Kind → Wanted → Field → ℕ
-numberOf k w typeNumber = typeOf k
-numberOf k w (south zero) = bitOf (w .latitude .0)
-numberOf k w (south (suc i)) = 0
-numberOf k w (latitude zero) = w .latitude .1
-numberOf k w (latitude (suc i)) = 0
-numberOf k w (longitude zero) = complement (w .longitude .0)
-numberOf k w (longitude (suc i)) = 0
-numberOf k w depth = bitOf (w .altitude .code .0)
-numberOf k w altitude = w .altitude .code .1
-numberOf k w uncertainty = w .area .«semi_major» .0
-numberOf k w semiMajor = w .area .«semi_major» .0
-numberOf k w semiMinor = w .area .«semi_minor» .0
-numberOf k w orientation = w .area .orientation .0
-numberOf k w altitudeUncertainty = w .«altitude_uncertainty» .code .0
-numberOf k w confidence = w .confidence .0
-numberOf k w count = 0
-numberOf k w innerRadius = 0
-numberOf k w offset = 0
-numberOf k w included = 0
-numberOf k w bearing = 0
-numberOf k w horizontalSpeed = 0
-numberOf k w down = 0
-numberOf k w verticalSpeed = 0
-numberOf k w speedUncertainty = 0
-numberOf k w verticalUncertainty = 0
+abbrev pub wantedNumber : Kind → Wanted → MessageField → ℕ
+wantedNumber k w typeNumber = typeOf k
+wantedNumber k w (south zero) = bitOf (w .latitude .0)
+wantedNumber k w (south (suc i)) = 0
+wantedNumber k w (latitude zero) = w .latitude .1
+wantedNumber k w (latitude (suc i)) = 0
+wantedNumber k w (longitude zero) = complement (w .longitude .0)
+wantedNumber k w (longitude (suc i)) = 0
+wantedNumber k w depth = bitOf (w .altitude .code .0)
+wantedNumber k w altitude = w .altitude .code .1
+wantedNumber k w uncertainty = w .area .«semi_major» .0
+wantedNumber k w semiMajor = w .area .«semi_major» .0
+wantedNumber k w semiMinor = w .area .«semi_minor» .0
+wantedNumber k w orientation = w .area .orientation .0
+wantedNumber k w altitudeUncertainty = w .«altitude_uncertainty» .code .0
+wantedNumber k w confidence = w .confidence .0
+wantedNumber k w count = 0
+wantedNumber k w innerRadius = 0
+wantedNumber k w offset = 0
+wantedNumber k w included = 0
+wantedNumber k w bearing = 0
+wantedNumber k w horizontalSpeed = 0
+wantedNumber k w down = 0
+wantedNumber k w verticalSpeed = 0
+wantedNumber k w speedUncertainty = 0
+wantedNumber k w verticalUncertainty = 0
 
 -- what the kind has no row for is zero
-abbrev pub rowNumber : Kind → Wanted → Field → ℕ
-rowNumber k w f = cond (eqb (widthOf (shapeRows k 0) f) 0) 0 (numberOf k w f)
+abbrev pub rowNumber : Kind → Wanted → MessageField → ℕ
+rowNumber k w f = cond (eqb (widthOf (shapeRows k 0) f) 0) 0 (wantedNumber k w f)
 
-abbrev pub recordOf : Kind → Wanted → Shape
-recordOf k w = shapeOf k (rowNumber k w)
+abbrev pub wantedRecord : Kind → Wanted → Shape
+wantedRecord k w = shapeOf k (rowNumber k w)
 
 abbrev pub messageOf : Kind → Wanted → List ℕ
-messageOf k w = message (rowsOf (recordOf k w)) (valueOf (recordOf k w))
+messageOf k w = message (rowsOf (wantedRecord k w)) (valueOf (wantedRecord k w))
 
 -- ---- which kind is best
 
 abbrev pub rankOf : Kind → Wanted → List ℕ
-rankOf k w = rank (recordOf k w) (lengthOf (shapeRows k 0))
+rankOf k w = rank (wantedRecord k w) (lengthOf (shapeRows k 0))
 
 -- a kind that is taken and can hold it, and none of those whose message is better
 pub record BestKind (w : Wanted) (taken : Kind → Type 0) (k : Kind) : Type 0 where

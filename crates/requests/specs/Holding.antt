@@ -1,7 +1,6 @@
--- HOLDING: document 01, "When a message holds a request". Assumes nothing.
+-- HOLDING: document 01, "When a message holds a request".
 use mathlib.Core.Path.{_≡_}
 use mathlib.Core.Bool.{cond}
-use Prim.Native.Nat.{ℕ}
 use lib.Dec.{ltb}
 use Rattle.ground.specs.declared.quantity.Confidence.{Confidence}
 use Rattle.ground.specs.declared.quantity.Confidence.the-variants as confident
@@ -17,7 +16,7 @@ use Rattle.angles.specs.Angles.{OrientationSet}
 use Rattle.radii.specs.Radii.{RadiusCovers, HeightCovers}
 use Rattle.confidences.specs.Confidences.{ConfidenceSet}
 use Rattle.layout.specs.declared.shape.Shape.{Shape}
-use Rattle.layout.specs.Layout.{Field, Row, altitude, uncertainty, semiMajor, altitudeUncertainty, confidence}
+use Rattle.layout.specs.Layout.{MessageField, Row, altitude, uncertainty, semiMajor, altitudeUncertainty, confidence}
 use mathlib.Core.List.{List}
 use Rattle.layout.specs.Rows.{widthOf}
 use Rattle.layout.specs.Shapes.{rowsOf}
@@ -35,7 +34,7 @@ pub data Had (A : Type 0) : Type 0 where
   has : A → Had A
   hasNot : Had A
 
-abbrev pub had : {A : Type 0} → List Row → Field → A → Had A
+abbrev pub had : {A : Type 0} → List Row → MessageField → A → Had A
 had rows f a = cond (ltb 0 (widthOf rows f)) (has a) hasNot
 
 -- a horizontal uncertainty: a circle's one code, or the codes of two axes and an orientation

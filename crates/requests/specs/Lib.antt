@@ -1,4 +1,4 @@
-pub mod Ranges
-pub mod Holding
 pub mod Choice
 pub mod Codes
+pub mod Holding
+pub mod Ranges

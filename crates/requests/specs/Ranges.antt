@@ -1,4 +1,4 @@
--- What a request may ask: document 01, "Refusal numbers", 7 and 8. Assumes nothing.
+-- What a request may ask: document 01, "Refusal numbers", 7 and 8.
 use Prim.Native.Nat.{_≤_}
 use Rattle.ground.specs.Answers.{refused}
 use Rattle.fields.specs.Fields.{Field, latitude, longitude, uncertainty, altitudeUncertainty, orientation, confidence, QuantityOf, Coding}
@@ -22,7 +22,7 @@ HorizontalInRange (horizontal.Circle R) = Unit {0}
 HorizontalInRange (horizontal.Ellipse R S a) = (S .0 ≤ R .0) × Ranged orientation a
 HorizontalInRange horizontal.NotAsked = Unit {0}
 
-pub record InRange (q : Request) : Type 0 where
+pub record RequestInRange (q : Request) : Type 0 where
   pub latitudes : Ranged latitude (q .latitude)
   pub longitudes : Ranged longitude (q .longitude)
   pub horizontals : HorizontalInRange (q .horizontal)
@@ -38,6 +38,6 @@ abbrev pub AltitudeUncertaintyCovered : AltitudeUncertainty → Type 0
 AltitudeUncertaintyCovered (height.Asked R) = Coverable altitudeUncertainty R
 AltitudeUncertaintyCovered height.NotAsked = Unit {0}
 
-pub record Covered (q : Request) : Type 0 where
+pub record RequestCovered (q : Request) : Type 0 where
   pub horizontals : HorizontalCovered (q .horizontal)
   pub heights : AltitudeUncertaintyCovered (q .«altitude_uncertainty»)

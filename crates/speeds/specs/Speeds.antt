@@ -1,4 +1,4 @@
--- Horizontal and vertical speed and their uncertainty, in metres per hour. Assumes nothing.
+-- Horizontal and vertical speed and their uncertainty, in metres per hour.
 use mathlib.Core.Path.{_≡_}
 use Prim.Native.Nat.{ℕ, _*_, _≤_}
 use lib.IntN.{ℤ}

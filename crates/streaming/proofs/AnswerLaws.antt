@@ -1,21 +1,21 @@
 -- The steps of a run that answers lines, and what a whole run has answered.
 use Prim.Native.Nat.{ℕ, _+_, _-_, _≤_, _<_}
 use mathlib.Core.Path.{_≡_, refl, sym, ap, _∙_, subst}
-use mathlib.Core.Bool.{Bool, true, false}
+use mathlib.Core.Bool.{true, false}
 use mathlib.Core.List.{List, [], _∷_, _++_, append-nil, append-assoc}
 use native.Mathlib.Omega.{arith}
 use lib.Dec.{T}
 use lib.ListN.{length, drop, length-append}
 use lib.Seq.{drop-append-seam}
-use Rattle.printing.specs.Printing.{endText}
+use Rattle.text.specs.AnswerLines.{endText}
 use Rattle.streaming.specs.declared.input.Input.{Input}
 use Rattle.streaming.specs.declared.output.Output.{Output}
 use Rattle.streaming.specs.declared.output.Run.{Run}
-use Rattle.streaming.specs.Sources.{unreadYet, octetsFrom, Goes, here}
+use Rattle.streaming.specs.Sources.{octetsFrom, Goes, here}
 use Rattle.streaming.specs.Lines.{linesOf}
 use Rattle.streaming.specs.Inputs.{noInput, SoundInput, Mark, newline, LineTaken, NoLine, nothing, mostOctets}
 use Rattle.streaming.specs.Inputs as inputs
-use Rattle.streaming.specs.Outputs.{noOutput, SoundOutput, PutOut, WritesEnd}
+use Rattle.streaming.specs.Outputs.{noOutput, SoundOutput, WritesEnd}
 use Rattle.streaming.specs.Answering.{LinesRead, Taken, Stops, closed, over, many, Answers, none, more, AnswerPut, Answering, Stopped, Ran}
 use Rattle.streaming.proofs.SourceLaws.{goes-parts, goes-over, goes-then}
 use Rattle.streaming.proofs.LineLaws.{line-first, line-last, no-lines, few-lines}

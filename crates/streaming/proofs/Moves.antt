@@ -1,4 +1,4 @@
--- Octets moved down a buffer, one at a time. Assumes nothing.
+-- Octets moved down a buffer, one at a time.
 use Prim.Native.Nat.{ℕ, _+_, _-_, _<_}
 use mathlib.Core.Path.{_≡_, sym, ap, _∙_}
 use mathlib.Core.List.{List}

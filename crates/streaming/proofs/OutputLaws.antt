@@ -6,7 +6,7 @@ use mathlib.Core.List.{List, [], _++_, append-nil, append-assoc}
 use native.Mathlib.Nat.{mod-add-mod}
 use lib.Dec.{T}
 use lib.ListN.{length, take, length-append}
-use Rattle.printing.specs.Printing.{endText}
+use Rattle.text.specs.AnswerLines.{endText}
 use Rattle.text.specs.Text.{Puts}
 use Rattle.text.proofs.OutputLaws.{text-so-far}
 use Rattle.streaming.specs.declared.output.Output.{Output}

@@ -1,19 +1,18 @@
 -- The search for the end of a line: what was dropped of it, and what is held.
-use Prim.Native.Nat.{ℕ, zero, suc, _+_, _-_, _≤_, _<_}
+use Prim.Native.Nat.{ℕ, _+_, _-_, _≤_, _<_}
 use mathlib.Core.Path.{_≡_, refl, sym, ap, _∙_, subst}
 use mathlib.Core.Bool.{Bool, true, false}
-use mathlib.Core.List.{List, [], _∷_, _++_, append-nil, append-assoc}
+use mathlib.Core.List.{List, [], _∷_, _++_, append-nil}
 use native.Mathlib.Omega.{arith}
 use lib.Dec.{T}
 use lib.ListN.{length, getD, take, drop, length-drop, length-append}
 use lib.Seq.{length-take-le, getD-take, getD-drop, drop-cons}
-use Rattle.numerals.specs.Marks.{FirstMark}
-use Rattle.streaming.specs.declared.source.Source.{Source}
+use Rattle.text.specs.Marks.{FirstMark}
 use Rattle.streaming.specs.declared.input.Input.{Input}
-use Rattle.streaming.specs.Sources.{octetsFrom, ReadMore, Goes, here, reads}
+use Rattle.streaming.specs.Sources.{octetsFrom, Goes, here, reads}
 use Rattle.streaming.specs.Lines.{NoNewline}
-use Rattle.streaming.specs.Inputs.{SoundInput, longestLine, lineIn, Line, newline, over, LineTaken, mostOctets, NoLine, nothing, many, NextLine, Started, IsLong, Cut, LastLine, line, none, Drops, same, dropped, Shortened, Refilled}
-use Rattle.streaming.proofs.SourceLaws.{take-to, piece-behind}
+use Rattle.streaming.specs.Inputs.{SoundInput, longestLine, lineIn, Line, newline, over, LineTaken, NoLine, nothing, many, NextLine, Started, Cut, LastLine, line, none, Drops, same, dropped, Shortened, Refilled}
+use Rattle.streaming.proofs.SourceLaws.{take-to}
 use Rattle.streaming.proofs.LineLaws.{no-newlines}
 
 never : {A : Type 0} {b : Bool} → b ≡ true → b ≡ false → A

@@ -4,7 +4,7 @@ use mathlib.Core.Bool.{true, false}
 use mathlib.Core.List.{List, [], _∷_, _++_}
 use Prim.Native.Nat.{ℕ, _+_, _≤_}
 use lib.ListN.{length}
-use Rattle.printing.specs.Printing.{endText}
+use Rattle.text.specs.AnswerLines.{endText}
 use Rattle.streaming.specs.declared.input.Input.{Input}
 use Rattle.streaming.specs.declared.output.Output.{Output}
 use Rattle.streaming.specs.declared.output.Run.{Run}

@@ -5,7 +5,6 @@ use mathlib.Core.List.{List, [], _∷_, _++_}
 use Prim.Native.Nat.{ℕ, _+_, _-_, _≤_, _<_}
 use lib.ListN.{length, take, drop}
 use Rattle.streaming.specs.declared.input.Input.{Input}
-use Rattle.streaming.specs.declared.source.Source.{Source}
 use Rattle.streaming.specs.Sources.{unreadYet, ReadMore, Goes}
 use Rattle.streaming.specs.Lines.{NoNewline}
 

@@ -1,10 +1,10 @@
 -- What is known of the answers that are put and of those that were written.
 use mathlib.Core.Path.{_≡_}
 use mathlib.Core.Bool.{true, false}
-use mathlib.Core.List.{List, [], _++_}
+use mathlib.Core.List.{List, _++_}
 use Prim.Native.Nat.{ℕ, _+_, _%_, _^_, _≤_}
 use lib.ListN.{length, take}
-use Rattle.printing.specs.Printing.{endText}
+use Rattle.text.specs.AnswerLines.{endText}
 use Rattle.streaming.specs.declared.output.Output.{Output}
 use Rattle.streaming.specs.Sinks.{unwrittenYet, Wrote}
 

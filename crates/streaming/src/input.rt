@@ -5,7 +5,7 @@ ghost use mathlib.Core.Path.{_≡_};
 ghost use mathlib.Core.Bool.{true, false};
 ghost use Prim.Native.Nat.{_≤_};
 ghost use lib.ListN.{length, take};
-ghost use Rattle.numerals.specs.Marks.{FirstMark};
+ghost use Rattle.text.specs.Marks.{FirstMark};
 ghost use Rattle.streaming.specs.Inputs.{noInput, SoundInput, Cuts, Cut, LastLine, Started, Shortened, Refilled, NextLine, IsLong};
 
 const LONGEST_LINE: usize = 4096;
@@ -80,7 +80,7 @@ fn newline(block: &[u8], input: Input) -> usize
 {
     let source = input.source;
     let fill = source::filled(source);
-    numerals::line_end(&block[0..fill], input.taken)
+    text::line_end(&block[0..fill], input.taken)
 }
 
 // The line up to `end`; what is taken goes up to `taken`.

@@ -66,7 +66,7 @@ pub fn write_end(out: &mut [u8; 65536], output: Output) -> Output
     if sink::is_closed(left.sink) {
         return left;
     }
-    left.put = printing::put_end(out, left.put, left.answered);
+    left.put = text::put_end(out, left.put, left.answered);
     written(out, left)
 }
 

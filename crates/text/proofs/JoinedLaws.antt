@@ -1,4 +1,4 @@
--- Laws of numbers joined into one, and of digits found there all at once. Assumes nothing.
+-- Laws of numbers joined into one, and of digits found there all at once.
 use mathlib.Core.Path.{_≡_, refl, ap, _∙_}
 use mathlib.Core.List.{List, [], _∷_, _++_, map}
 use Prim.Native.Nat.{ℕ, zero, suc, _+_, _*_, _-_, _/_, _%_, _≤_, _<_}

@@ -1,4 +1,10 @@
-pub mod OutputLaws
-pub mod WithinLaws
-pub mod OctetLaws
 pub mod JoinedLaws
+pub mod LineFieldLaws
+pub mod MarkLaws
+pub mod NumeralLaws
+pub mod OctetLaws
+pub mod OutputLaws
+pub mod ReadBack
+pub mod SaysLaws
+pub mod WidthLaws
+pub mod WithinLaws

@@ -1,4 +1,4 @@
--- Laws of octets as text. Assumes nothing.
+-- Laws of octets as text.
 use mathlib.Core.Path.{_≡_, refl}
 use mathlib.Core.List.{List, [], _∷_, _++_}
 use Prim.Native.Nat.{ℕ, _+_, _*_, _/_, _%_, _<_}

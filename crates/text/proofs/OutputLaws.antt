@@ -1,10 +1,10 @@
--- Laws of text put into a buffer, and of decimals. Assumes nothing.
+-- Laws of text put into a buffer, and of decimals.
 use Prim.Native.Nat.{ℕ, zero, suc, _+_, _/_, _%_, _^_, _≤_, _<_}
 use mathlib.Core.Path.{_≡_, refl, sym, ap, _∙_, subst}
 use mathlib.Core.Bool.{Bool, true, false}
 use mathlib.Core.List.{List, [], _∷_, _++_, append-assoc}
 use mathlib.Core.Logic.{_⊎_, inl, inr, ⊎-elim}
-use native.Mathlib.Nat.{pow-suc, div-lt-iff-lt-mul, add-zero, add-suc, suc-add, add-assoc}
+use native.Mathlib.Nat.{pow-suc, div-lt-iff-lt-mul, add-zero, add-suc, add-assoc}
 use native.Mathlib.Omega.{arith}
 use native.Mathlib.Numerals.{add-one}
 use lib.ListN.{length, take, drop, set, length-append}

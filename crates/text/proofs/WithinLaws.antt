@@ -1,4 +1,4 @@
--- Laws of text that takes at most so many octets. Assumes nothing.
+-- Laws of text that takes at most so many octets.
 use mathlib.Core.List.{List, [], _∷_, _++_}
 use Prim.Native.Nat.{ℕ, _+_, _^_, _≤_, _<_}
 use native.Mathlib.Omega.{arith}

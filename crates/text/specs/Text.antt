@@ -1,4 +1,4 @@
--- Numbers as text, and text put into a buffer. Assumes nothing.
+-- Numbers as text, and text put into a buffer.
 use mathlib.Core.Path.{_≡_}
 use mathlib.Core.Bool.{cond}
 use mathlib.Core.List.{List, [], _∷_, _++_}

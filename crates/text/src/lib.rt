@@ -1,5 +1,28 @@
 // The text of the programs, put into a lent buffer: what stood before and after it stays as it was.
+mod answer_lines;
+mod marks;
+mod numeral;
+mod printed;
+mod widths;
+
+pub use answer_lines::put_end;
+pub use answer_lines::put_line;
 use ground::Whole;
+pub use marks::field_end;
+pub use marks::line_end;
+pub use numeral::Numeral;
+pub use numeral::digits_from;
+pub use numeral::number_in;
+pub use printed::Printed;
+pub use printed::of_told;
+pub use widths::Signed32;
+pub use widths::Signed64;
+pub use widths::Size;
+pub use widths::Unsigned32;
+pub use widths::signed_32;
+pub use widths::signed_64;
+pub use widths::size_of;
+pub use widths::unsigned_32;
 ghost use mathlib.Core.List.{[], _∷_};
 ghost use mathlib.Core.Path.{_≡_};
 ghost use Prim.Native.Nat.{_+_, _*_, _/_, _%_, _≤_, _<_};

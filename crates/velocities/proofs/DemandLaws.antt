@@ -1,16 +1,16 @@
--- What is demanded of a velocity's numbers: of its codes the bearing's alone. Assumes nothing.
+-- What is demanded of a velocity's numbers: of its codes the bearing's alone.
 use Prim.Native.Nat.{ℕ, _<_}
 use native.Mathlib.Omega.{arith}
 use Rattle.layout.specs.declared.velocity.VelocityKind.{VelocityKind}
 use Rattle.layout.specs.declared.velocity.VelocityKind.the-variants.{Nothing, Horizontal, HorizontalVertical, HorizontalUncertain, HorizontalVerticalUncertain}
-use Rattle.layout.specs.Layout.{Field, bearing, velocityRows}
-use Rattle.layout.specs.Demands.{Listed, CountSound, AnglesSound, ConfidenceSound}
+use Rattle.layout.specs.Layout.{MessageField, bearing, velocityRows}
+use Rattle.layout.specs.Demands.{TypeKnown, CountSound, AnglesSound, ConfidenceSound}
 
 -- a field that is not used
 no : {P : Type 0} → 0 < 0 → P
 no h = absurd (omega arith)
 
-module _ (value : Field → ℕ) where
+module _ (value : MessageField → ℕ) where
   pub no-count : (k : VelocityKind) → CountSound (velocityRows k) value
   no-count Nothing = record { least = no; most = no }
   no-count Horizontal = record { least = no; most = no }
@@ -32,7 +32,7 @@ module _ (value : Field → ℕ) where
   sound-bearing HorizontalUncertain h = record { orientations = no; offsets = no; includeds = no; bearings = λ u. h }
   sound-bearing HorizontalVerticalUncertain h = record { orientations = no; offsets = no; includeds = no; bearings = λ u. h }
 
-  pub bearing-sound : (k : VelocityKind) → Listed (velocityRows k) → AnglesSound (velocityRows k) value → value bearing < 360
+  pub bearing-sound : (k : VelocityKind) → TypeKnown (velocityRows k) → AnglesSound (velocityRows k) value → value bearing < 360
   bearing-sound Nothing l a = absurd (omega arith)
   bearing-sound Horizontal l a = a .bearings (omega arith)
   bearing-sound HorizontalVertical l a = a .bearings (omega arith)

@@ -1,4 +1,4 @@
--- The kind that a first octet says. Assumes nothing.
+-- The kind that a first octet says.
 use Prim.Native.Nat.{ℕ, _/_}
 use mathlib.Core.Path.{_≡_, ap, _∙_}
 use mathlib.Core.List.{List}

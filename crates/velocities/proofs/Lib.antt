@@ -1,5 +1,5 @@
-pub mod FirstOctet
 pub mod DemandLaws
+pub mod FirstOctet
 pub mod ReadLaws
 pub mod UnusedLaws
 pub mod WriteLaws

@@ -1,5 +1,5 @@
 -- A record's codes are in their fields just where those that its kind has no field for are zero: the others' types are their
--- fields, but for the bearing's, which is demanded before. Assumes nothing.
+-- fields, but for the bearing's, which is demanded before.
 use Prim.Native.Nat.{_^_, _<_}
 use mathlib.Core.Path.{_≡_, refl, ap, subst}
 use mathlib.Core.Bool.{Bool, true, false}
@@ -11,7 +11,7 @@ use Rattle.layout.specs.declared.velocity.VelocityKind.{VelocityKind}
 use Rattle.layout.specs.declared.velocity.VelocityKind.the-variants.{Nothing, Horizontal, HorizontalVertical, HorizontalUncertain, HorizontalVerticalUncertain}
 use Rattle.layout.specs.declared.velocity.Velocity.{Velocity}
 use Rattle.layout.specs.Layout.{
-  Field,
+  MessageField,
   typeNumber,
   count,
   south,
@@ -39,15 +39,15 @@ use Rattle.layout.specs.Layout.{
   velocityTypeOf,
 }
 use Rattle.layout.specs.Rows.{widthOf}
-use Rattle.layout.specs.Demands.{Listed, InFields}
+use Rattle.layout.specs.Demands.{TypeKnown, InFields}
 use Rattle.layout.specs.Velocities.{velocityValueOf}
-use Rattle.carrying.proofs.SizeLaws.{bit-lt, type-lt}
+use Rattle.velocity_octets.proofs.SizeLaws.{bit-lt, type-lt}
 use Rattle.velocities.specs.Writing.{AreZero}
 
 -- ---- what a record's codes are
 
-pub unlisted : (k : VelocityKind) → k ≡ Nothing → Listed (velocityRows k) → ⊥
-unlisted k e l = let z : 0 < 0 = subst (λ (j : VelocityKind). Listed (velocityRows j)) e l in absurd (omega arith)
+pub unlisted : (k : VelocityKind) → k ≡ Nothing → TypeKnown (velocityRows k) → ⊥
+unlisted k e l = let z : 0 < 0 = subst (λ (j : VelocityKind). TypeKnown (velocityRows j)) e l in absurd (omega arith)
 
 -- what the codes' types hold
 pub record Typed (x : Velocity) : Type 0 where
@@ -66,7 +66,7 @@ module _ (x : Velocity) (rows : List Row)
     (s : x .«horizontal_speed» .0 < 2 ^ widthOf rows horizontalSpeed) (d : bitOf (x .«vertical_speed» .0) < 2 ^ widthOf rows down)
     (v : x .«vertical_speed» .1 < 2 ^ widthOf rows verticalSpeed) (u : x .uncertainty .0 < 2 ^ widthOf rows speedUncertainty)
     (w : x .«vertical_uncertainty» .0 < 2 ^ widthOf rows verticalUncertainty) where
-  one : (f : Field) → velocityValueOf x f < 2 ^ widthOf rows f
+  one : (f : MessageField) → velocityValueOf x f < 2 ^ widthOf rows f
   one typeNumber = t
   one bearing = b
   one horizontalSpeed = s

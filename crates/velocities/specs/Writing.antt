@@ -1,14 +1,14 @@
--- What the parts of the writer promise of a record, in the words of the layout table. Assumes nothing.
+-- What the parts of the writer promise of a record, in the words of the layout table.
 use mathlib.Core.Path.{_≡_}
 use mathlib.Core.Bool.{Bool, false}
 use Prim.Native.Nat.{ℕ}
 use Rattle.layout.specs.declared.velocity.Velocity.{Velocity}
 use Rattle.layout.specs.Demands.{WriteAnswer}
 use Rattle.layout.specs.Velocities.{velocityValueOf}
-use Rattle.carrying.specs.Carrying.{rowsOf}
+use Rattle.velocity_octets.specs.Carrying.{velocityRowsOf}
 
 abbrev pub VelocityAnswer : Velocity → ℕ → ℕ → Type 0
-VelocityAnswer x = WriteAnswer (rowsOf x) (velocityValueOf x)
+VelocityAnswer x = WriteAnswer (velocityRowsOf x) (velocityValueOf x)
 
 pub record AreZero (down : Bool) (vertical uncertainty verticalUncertainty : ℕ) : Type 0 where
   pub downs : down ≡ false

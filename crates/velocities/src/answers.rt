@@ -9,14 +9,14 @@ ghost use Prim.Native.Nat.{_<_};
 ghost use Rattle.ground.specs.Answers.{outcomeNumber, handed, Decides};
 ghost use Rattle.layout.specs.Layout.{velocityRows};
 ghost use Rattle.layout.specs.Rows.{lengthOf};
-ghost use Rattle.layout.specs.Demands.{Listed};
-ghost use Rattle.velocities.specs.Reading.{FormAnswer};
-ghost use Rattle.carrying.specs.Carrying.{rowsOf, VelocityInFields};
+ghost use Rattle.layout.specs.Demands.{TypeKnown};
+ghost use Rattle.velocities.specs.Reading.{VelocityFormAnswer};
+ghost use Rattle.velocity_octets.specs.Carrying.{velocityRowsOf, VelocityInFields};
 ghost use Rattle.velocities.specs.Writing.{VelocityAnswer, AreZero};
 
 // 2 and 3, of so many octets.
 pub fn of_message(length: usize, kind: VelocityKind) -> Outcome
-    ensures { λ r. ⌜ FormAnswer kind length (outcomeNumber r) ⌝ }
+    ensures { λ r. ⌜ VelocityFormAnswer kind length (outcomeNumber r) ⌝ }
 {
     let whole = kinds::length_of(kind);
     if whole == 0 {
@@ -61,7 +61,7 @@ pub fn written(outcome: Outcome, kind: VelocityKind) -> usize
 
 // Whether what the kind has no field for is zero. Its own fields hold every code of their types, and every bearing below 360.
 fn in_fields(velocity: Velocity) -> bool
-    requires { ⌜ Listed (rowsOf velocity) ⌝ }
+    requires { ⌜ TypeKnown (velocityRowsOf velocity) ⌝ }
     requires { ⌜ velocity .bearing .0 < 360 ⌝ }
     ensures { λ r. ⌜ Decides r (VelocityInFields velocity) ⌝ }
 {

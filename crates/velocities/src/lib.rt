@@ -12,8 +12,8 @@ use layout::Written;
 ghost use Rattle.ground.specs.Answers.{outcomeNumber};
 ghost use Rattle.layout.specs.Rows.{lengthOf};
 ghost use Rattle.layout.specs.Velocities.{ReadsVelocity, WritesVelocity};
-ghost use Rattle.velocities.specs.Reading.{RefusedWith};
-ghost use Rattle.carrying.specs.Carrying.{rowsOf};
+ghost use Rattle.velocities.specs.Reading.{VelocityReadingRefused};
+ghost use Rattle.velocity_octets.specs.Carrying.{velocityRowsOf};
 ghost use Rattle.velocities.specs.Writing.{VelocityAnswer};
 
 // The record in a message, or the refusal. Each octet is looked at once, and 5 is judged on the record.
@@ -28,7 +28,7 @@ pub fn read_velocity(s: &[u8]) -> VelocityRead
     if let Outcome::Refused(why) = answers::of_message(s.len(), kind) {
         return refused(why);
     }
-    let velocity = carrying::velocity(s, kind, first);
+    let velocity = velocity_octets::velocity(s, kind, first);
     if 360 <= velocity.bearing.0 {
         return refused(Refusal::AngleCode);
     }
@@ -40,7 +40,7 @@ pub fn read_velocity(s: &[u8]) -> VelocityRead
 
 // A refusal hands back the record of no velocity.
 fn refused(why: Refusal) -> VelocityRead
-    ensures { λ r. ⌜ RefusedWith why r ⌝ }
+    ensures { λ r. ⌜ VelocityReadingRefused why r ⌝ }
 {
     VelocityRead {
         outcome: Outcome::Refused(why),
@@ -57,14 +57,14 @@ pub fn write_velocity(out: &mut [u8], velocity: Velocity) -> Written
     let outcome = answers::of_record(velocity, room);
     let length = answers::written(outcome, kind);
     if 0 < length {
-        carrying::put(out, velocity);
+        velocity_octets::put(out, velocity);
     }
     Written { outcome, length }
 }
 
 // What writing the record answers, given room for its message.
 pub fn velocity_outcome(velocity: Velocity) -> Outcome
-    ensures { λ r. ⌜ VelocityAnswer velocity (lengthOf (rowsOf velocity)) (outcomeNumber r) ⌝ }
+    ensures { λ r. ⌜ VelocityAnswer velocity (lengthOf (velocityRowsOf velocity)) (outcomeNumber r) ⌝ }
 {
     let kind = velocity.kind;
     let room = kinds::length_of(kind);

@@ -1,1 +1,4 @@
 pub mod MessageLaws
+pub mod NumberLaws
+pub mod ShapeTextLaws
+pub mod VelocityTextLaws

@@ -1,4 +1,4 @@
--- A message's text by what reading it answered: the record's, or the number of the refusal. Assumes nothing.
+-- A message's text by what reading it answered: the record's, or the number of the refusal.
 use Prim.Native.Nat.{ℕ, zero, suc}
 use mathlib.Core.Path.{_≡_, refl, sym, ap, _∙_, subst}
 use mathlib.Core.List.{List}
@@ -18,10 +18,10 @@ use Rattle.layout.specs.Layout.{Row}
 use Rattle.layout.specs.Demands.{ReadAnswer}
 use Rattle.layout.specs.Shapes.{rowsIn, shapeIn, blankShape, ReadsShape}
 use Rattle.layout.specs.Velocities.{velocityRowsIn, velocityIn, blankVelocity, ReadsVelocity}
-use Rattle.trips.specs.ReadNumbers.{readNumber}
-use Rattle.trips.proofs.ReadNumberLaws.{read-number-is}
-use Rattle.outlines.specs.Outlines.{shapeText}
-use Rattle.courses.specs.Courses.{velocityText}
+use Rattle.layout.specs.ReadNumbers.{readNumber}
+use Rattle.layout.proofs.ReadNumberLaws.{read-number-is}
+use Rattle.wording.specs.ShapeTexts.{shapeText}
+use Rattle.wording.specs.VelocityTexts.{velocityText}
 use Rattle.wording.specs.Wording.{answerText, messageText}
 
 not-0 : (why : Refusal) → numberOf why ≡ 0 → ⊥

@@ -1,1 +1,4 @@
+pub mod Numbers
+pub mod ShapeTexts
+pub mod VelocityTexts
 pub mod Wording

@@ -1,4 +1,4 @@
--- THE TEXT OF A MESSAGE, document 01, "The lister": the answer; on 0 also the type and the reported quantities. Assumes nothing.
+-- THE TEXT OF A MESSAGE, document 01, "The lister": the answer; on 0 also the type and the reported quantities.
 use mathlib.Core.Bool.{cond}
 use mathlib.Core.List.{List}
 use Prim.Native.Nat.{ℕ, zero, suc}
@@ -6,9 +6,9 @@ use lib.Dec.{eqb}
 use Rattle.text.specs.Text.{decimal}
 use Rattle.layout.specs.Shapes.{rowsIn, shapeIn}
 use Rattle.layout.specs.Velocities.{velocityRowsIn, velocityIn}
-use Rattle.trips.specs.ReadNumbers.{readNumber}
-use Rattle.outlines.specs.Outlines.{shapeText}
-use Rattle.courses.specs.Courses.{velocityText}
+use Rattle.layout.specs.ReadNumbers.{readNumber}
+use Rattle.wording.specs.ShapeTexts.{shapeText}
+use Rattle.wording.specs.VelocityTexts.{velocityText}
 
 -- the record's text on 0, else the number of the refusal
 abbrev pub answerText : ℕ → List ℕ → List ℕ

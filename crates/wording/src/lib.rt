@@ -1,4 +1,8 @@
 // The text of a message, put into a lent buffer: document 01, "The lister".
+mod numbers;
+mod shape_text;
+mod velocity_text;
+
 use ground::Outcome;
 ghost use Prim.Native.Nat.{_+_, _≤_};
 ghost use lib.ListN.{length};
@@ -25,7 +29,7 @@ fn put_shape(out: &mut [u8], at: usize, m: &[u8]) -> usize
     match outcome {
         Outcome::Done => {
             let shape = read.shape;
-            outlines::put_shape(out, at, shape)
+            shape_text::put_shape(out, at, shape)
         }
         Outcome::Refused(why) => text::put_decimal(out, at, ground::refusal_number(why)),
     }
@@ -40,7 +44,7 @@ fn put_velocity(out: &mut [u8], at: usize, m: &[u8]) -> usize
     match outcome {
         Outcome::Done => {
             let velocity = read.velocity;
-            courses::put_velocity(out, at, velocity)
+            velocity_text::put_velocity(out, at, velocity)
         }
         Outcome::Refused(why) => text::put_decimal(out, at, ground::refusal_number(why)),
     }

@@ -1,1 +1,1 @@
-pub mod CellLaws
+pub mod ElementLaws

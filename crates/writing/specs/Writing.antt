@@ -1,4 +1,4 @@
--- What writing a record answers, given room for its message. Assumes nothing.
+-- What writing a record answers, given room for its message.
 use Prim.Native.Nat.{ℕ}
 use Rattle.layout.specs.declared.shape.Shape.{Shape}
 use Rattle.layout.specs.Rows.{lengthOf}

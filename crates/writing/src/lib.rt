@@ -1,4 +1,4 @@
-// A shape's record to octets: document 01, "Octet layouts" and "Refusal numbers". A record is written by its cells.
+// A shape's record to octets: document 01, "Octet layouts" and "Refusal numbers". A record is written by its elements.
 use ground::Outcome;
 use ground::Refusal;
 use layout::Kind;
@@ -19,7 +19,7 @@ pub fn write_shape(out: &mut [u8], shape: Shape) -> Written
             length: 0,
         };
     }
-    let codes = code_cells::cells_of(shape);
+    let codes = code_arrays::elements_of(shape);
     composing::write(out, &codes)
 }
 
@@ -31,6 +31,6 @@ pub fn shape_outcome(shape: Shape) -> Outcome
     if let Kind::Nothing = kind {
         return Outcome::Refused(Refusal::UnknownType);
     }
-    let codes = code_cells::cells_of(shape);
+    let codes = code_arrays::elements_of(shape);
     judging::outcome(&codes, kind)
 }

@@ -7,23 +7,8 @@ use borrow.Author.Needs.{needs}
 use Rattle.choice.proofs.choose.Statement.{statement}
 use Rattle.choice.proofs.choose.Tie as tie
 
-request-codes-requires : tie.Need-request-codes-requires
-request-codes-requires c κs = search needs
-
-enum-known-codes : tie.Need-enum-known-codes
-enum-known-codes c = search needs
-
 write-best-requires : tie.Need-write-best-requires
 write-best-requires c κs = tame (c .before .before .before .before .before .before .args .request) _ ((rw (c .before .before .codes .given .1) at (c .before .before .before .before .request-codes .ensures)) .2)
-
-enum-known-why : tie.Need-enum-known-why
-enum-known-why c = search needs
-
-refused-requires : tie.Need-refused-requires
-refused-requires c κs = search needs
-
-same-length : tie.Need-same-length
-same-length c = search needs
 
 returns : tie.Need-returns
 returns c = let p = rw (c .before .before .before .before .before .codes .given .1) at (c .before .before .before .before .before .before .before .request-codes .ensures) in chosen-of (c .before .before .before .before .before .before .before .before .before .args .request) (Listed (c .before .before .before .before .before .before .before .before .before .args .list)) (now (c .before .before .before .before .before .before .before .before .before .args .out)) _ (p .0) (p .1) (p .2) (c .before .before .write-best .ensures)
@@ -35,11 +20,5 @@ pub choose-spec : {M : Type 1} → statement M
 choose-spec =
     tie.close
     (tie.spec
-    request-codes-requires
-    enum-known-codes
-    write-best-requires
-    enum-known-why
-    refused-requires
-    same-length
-    returns
-    returns-2)
+    (λ c κs. search needs) (λ c. search needs) write-best-requires (λ c. search needs) (λ c κs. search needs)
+    (λ c. search needs) returns returns-2)

@@ -5,35 +5,17 @@ use borrow.Author.Needs.{needs}
 use Rattle.choice.proofs.write_best.Statement.{statement}
 use Rattle.choice.proofs.write_best.Tie as tie
 
-best-kind-requires : tie.Need-best-kind-requires
-best-kind-requires c κs = search needs
-
-enum-known-kind : tie.Need-enum-known-kind
-enum-known-kind c = search needs
-
 enum-told : tie.Need-enum-told
 enum-told c = search needs
 
-refused-requires : tie.Need-refused-requires
-refused-requires c κs = search needs
-
 returns : tie.Need-returns
 returns c = rw (c .refused .ensures .outcome, c .refused .ensures .length) (no-kind (rw (c .before .enum-told .given .1) at (c .before .before .before .best-kind .ensures)))
-
-message-length-requires : tie.Need-message-length-requires
-message-length-requires c κs = search needs
-
-refused-requires-2 : tie.Need-refused-requires-2
-refused-requires-2 c κs = search needs
 
 returns-2 : tie.Need-returns-2
 returns-2 c = rw (c .refused2 .ensures .outcome, c .refused2 .ensures .length) (no-room (rw (c .before .before .before .before .kind .given .1) at (c .before .before .before .before .before .before .best-kind .ensures)) (omega (arith, c .before .if1 .taken, c .before .before .message-length .ensures)))
 
 put-requires : tie.Need-put-requires
 put-requires c κs = ((rw (c .before .before .before .before .kind .given .1) at (c .before .before .before .before .before .before .best-kind .ensures)) .able .part, (c .before .before .before .before .before .before .before .before .pre, omega (arith, c .before .if1 .left, c .before .before .message-length .ensures)))
-
-same-length : tie.Need-same-length
-same-length c = search needs
 
 returns-3 : tie.Need-returns-3
 returns-3 c = rw (c .before .before .before .before .before .message-length .ensures, c .before .before .put .ensures) (written (rw (c .before .before .before .before .before .before .before .kind .given .1) at (c .before .before .before .before .before .before .before .before .before .best-kind .ensures)) (omega (arith, c .before .before .before .before .if1 .left, c .before .before .before .before .before .message-length .ensures)))
@@ -42,14 +24,5 @@ pub write-best-spec : {M : Type 1} → statement M
 write-best-spec =
     tie.close
     (tie.spec
-    best-kind-requires
-    enum-known-kind
-    enum-told
-    refused-requires
-    returns
-    message-length-requires
-    refused-requires-2
-    returns-2
-    put-requires
-    same-length
-    returns-3)
+    (λ c κs. search needs) (λ c. search needs) enum-told (λ c κs. search needs) returns (λ c κs. search needs)
+    (λ c κs. search needs) returns-2 put-requires (λ c. search needs) returns-3)

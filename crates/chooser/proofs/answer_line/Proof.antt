@@ -1,5 +1,5 @@
 -- Room is made, and the answer put.
-use mathlib.Core.Path.{_≡_, ap, subst}
+use mathlib.Core.Path.{ap, subst}
 use Prim.Native.Nat.{ℕ, _+_}
 use Rattle.chooser.specs.Choosing.{AnswerTo}
 use Rattle.streaming.proofs.OutputLaws.{put-answer}

@@ -7,7 +7,7 @@ use Rattle.streaming.specs.Inputs.{SoundInput, mostOctets}
 use Rattle.streaming.specs.Outputs.{SoundOutput}
 use Rattle.streaming.specs.Answering.{Taken}
 use Rattle.streaming.proofs.AnswerLaws.{GoesOn, empty-output, begun, one-more, none-left, is-closed, too-many}
-use Rattle.chooser.specs.Choosing.{LineAnswer}
+use Rattle.chooser.specs.Choosing.{ChooserAnswer}
 use borrow.Author.Tests.{not-true, not-false}
 use borrow.Author.Needs.{needs}
 use Rattle.chooser.proofs.answer_lines.Statement.{statement}
@@ -16,7 +16,7 @@ use Rattle.chooser.proofs.answer_lines.Tie as tie
 abbrev Inv-loop : tie.InvT-loop
 Inv-loop out₀ block₀ list input₀ output₀ out block input output =
     SoundInput input × SoundOutput output × (output .sink .closed ≡ false)
-    × ((first : List (List ℕ)) (start : List ℕ) → Taken first start block₀ input₀ → GoesOn (LineAnswer list) first start block out input output)
+    × ((first : List (List ℕ)) (start : List ℕ) → Taken first start block₀ input₀ → GoesOn (ChooserAnswer list) first start block out input output)
 
 abbrev μ-loop : tie.MeasureT-loop
 μ-loop out₀ block₀ list input₀ output₀ out block input output = mostOctets - output .answered
@@ -33,9 +33,6 @@ returns-2 : tie.Need-returns-2 Inv-loop μ-loop
 returns-2 c = λ first start t.
     is-closed (one-more (c .before .before .before .before .before .before .before .before .before .before .before .loop .inv .3 first start t) (c .before .before .before .before .before .before .before .next-line .ensures .line (not-false _ (c .before .before .before .before .before .if2 .left))) (c .before .before .answer-line .ensures)) (c .before .before .answer-line .ensures .sound) (sym (c .before .is-closed .ensures) ∙ c .if3 .taken)
 
-loop-less : tie.Need-loop-less Inv-loop μ-loop
-loop-less c = search needs
-
 loop-again : tie.Need-loop-again Inv-loop μ-loop
 loop-again c = (
   c .before .before .before .before .before .before .before .next-line .ensures .sound,
@@ -51,15 +48,5 @@ pub answer-lines-spec : {M : Type 1} → statement M
 answer-lines-spec =
     tie.close
     (tie.spec
-    Inv-loop
-    μ-loop
-    (λ c κs. search needs)
-    loop-holds
-    (λ c κs. search needs)
-    returns
-    (λ c κs. search needs)
-    (λ c κs. search needs)
-    returns-2
-    loop-less
-    loop-again
-    returns-3)
+    Inv-loop μ-loop (λ c κs. search needs) loop-holds (λ c κs. search needs) returns (λ c κs. search needs)
+    (λ c κs. search needs) returns-2 (λ c. search needs) loop-again returns-3)

@@ -1,7 +1,7 @@
 -- Room is made, and the text of what is printed put.
-use mathlib.Core.Path.{refl, ap, _∙_}
+use mathlib.Core.Path.{ap}
 use Prim.Native.Nat.{ℕ, _+_}
-use Rattle.printing.specs.Printing.{lineText}
+use Rattle.text.specs.AnswerLines.{lineText}
 use Rattle.streaming.proofs.OutputLaws.{put-answer}
 use borrow.Author.Needs.{needs}
 use Rattle.coder.proofs.answer_line.Statement.{statement}

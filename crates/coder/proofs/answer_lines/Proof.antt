@@ -1,19 +1,19 @@
 -- The run stands where the lines so far are answered; each turn answers one more.
-use mathlib.Core.Path.{_≡_, refl, sym, _∙_}
+use mathlib.Core.Path.{_≡_, sym, _∙_}
 use mathlib.Core.Bool.{false}
 use mathlib.Core.List.{[]}
 use Prim.Native.Nat.{_-_}
 use Rattle.streaming.specs.Inputs.{SoundInput, mostOctets}
 use Rattle.streaming.specs.Outputs.{SoundOutput}
 use Rattle.streaming.proofs.AnswerLaws.{GoesOn, none-taken, empty-output, begun, one-more, none-left, is-closed, too-many}
-use Rattle.coder.specs.Coding.{LineAnswer}
+use Rattle.coder.specs.Coding.{CoderAnswer}
 use borrow.Author.Tests.{not-true, not-false}
 use borrow.Author.Needs.{needs}
 use Rattle.coder.proofs.answer_lines.Statement.{statement}
 use Rattle.coder.proofs.answer_lines.Tie as tie
 
 abbrev Inv-loop : tie.InvT-loop
-Inv-loop out₀ block₀ input₀ output₀ out block input output = SoundInput input × SoundOutput output × (output .sink .closed ≡ false) × GoesOn LineAnswer [] block₀ block out input output
+Inv-loop out₀ block₀ input₀ output₀ out block input output = SoundInput input × SoundOutput output × (output .sink .closed ≡ false) × GoesOn CoderAnswer [] block₀ block out input output
 
 abbrev μ-loop : tie.MeasureT-loop
 μ-loop out₀ block₀ input₀ output₀ out block input output = mostOctets - output .answered
@@ -31,9 +31,6 @@ returns-2 : tie.Need-returns-2 Inv-loop μ-loop
 returns-2 c =
     is-closed (one-more (c .before .before .before .before .before .before .before .before .before .before .before .loop .inv .3) (c .before .before .before .before .before .before .before .next-line .ensures .line (not-false _ (c .before .before .before .before .before .if2 .left))) (c .before .before .answer-line .ensures)) (c .before .before .answer-line .ensures .sound) (sym (c .before .is-closed .ensures) ∙ c .if3 .taken)
 
-loop-less : tie.Need-loop-less Inv-loop μ-loop
-loop-less c = search needs
-
 loop-again : tie.Need-loop-again Inv-loop μ-loop
 loop-again c = (
   c .before .before .before .before .before .before .before .next-line .ensures .sound,
@@ -49,16 +46,5 @@ pub answer-lines-spec : {M : Type 1} → statement M
 answer-lines-spec =
     tie.close
     (tie.spec
-    Inv-loop
-    μ-loop
-    (λ c κs. search needs)
-    (λ c κs. search needs)
-    loop-holds
-    (λ c κs. search needs)
-    returns
-    (λ c κs. search needs)
-    (λ c κs. search needs)
-    returns-2
-    loop-less
-    loop-again
-    returns-3)
+    Inv-loop μ-loop (λ c κs. search needs) (λ c κs. search needs) loop-holds (λ c κs. search needs) returns
+    (λ c κs. search needs) (λ c κs. search needs) returns-2 (λ c. search needs) loop-again returns-3)

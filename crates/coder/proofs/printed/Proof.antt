@@ -1,5 +1,5 @@
 -- The line is where the block has it, unless it is long.
-use mathlib.Core.Path.{refl, subst, sym, _∙_}
+use mathlib.Core.Path.{refl}
 use native.Mathlib.Omega.{arith}
 use lib.Dec.{T}
 use borrow.Author.Needs.{needs}

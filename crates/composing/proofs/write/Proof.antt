@@ -5,26 +5,11 @@ use Rattle.judging.proofs.RoomLaws.{refused}
 use Rattle.composing.proofs.write.Statement.{statement}
 use Rattle.composing.proofs.write.Tie as tie
 
-kind-in-requires : tie.Need-kind-in-requires
-kind-in-requires c κs = search needs
-
-outcome-requires : tie.Need-outcome-requires
-outcome-requires c κs = search needs
-
 enum-told : tie.Need-enum-told
 enum-told c = search needs
 
 write-taken-requires : tie.Need-write-taken-requires
 write-taken-requires c κs = (search needs, (search needs, rw (c .before .enum-told .given .1) at (c .before .before .before .outcome .ensures)))
-
-enum-known-why : tie.Need-enum-known-why
-enum-known-why c = search needs
-
-same-length : tie.Need-same-length
-same-length c = search needs
-
-returns : tie.Need-returns
-returns c = search needs
 
 returns-2 : tie.Need-returns-2
 returns-2 c =
@@ -34,11 +19,5 @@ pub write-spec : {M : Type 1} → statement M
 write-spec =
     tie.close
     (tie.spec
-    kind-in-requires
-    outcome-requires
-    enum-told
-    write-taken-requires
-    enum-known-why
-    same-length
-    returns
-    returns-2)
+    (λ c κs. search needs) (λ c κs. search needs) enum-told write-taken-requires (λ c. search needs)
+    (λ c. search needs) (λ c. search needs) returns-2)

@@ -1,21 +1,15 @@
--- `confidences::confidence_code` meets its contract, in each arm for the confidence that it matched. Assumes nothing.
+-- `confidences::confidence_code` meets its contract, in each arm for the confidence that it matched.
 use mathlib.Core.Path.{refl, subst⁻¹}
 use borrow.Author.Needs.{needs}
 use Rattle.confidences.specs.Confidences.{ConfidenceSet, NoPerCent}
 use Rattle.confidences.proofs.confidence_code.Statement.{statement}
 use Rattle.confidences.proofs.confidence_code.Tie as tie
 
-enum-known-confidence : tie.Need-enum-known-confidence
-enum-known-confidence c = search needs
-
 returns : tie.Need-returns
 returns c = (refl, subst⁻¹ NoPerCent (c .before .before .confidence .given .1) (search needs))
 
 returns-2 : tie.Need-returns-2
 returns-2 c = (refl, subst⁻¹ NoPerCent (c .before .before .before .confidence .given .1) (search needs))
-
-cast-t7 : tie.Need-cast-t7
-cast-t7 c = search needs
 
 enum-told : tie.Need-enum-told
 enum-told c = search needs
@@ -27,4 +21,7 @@ returns-4 : tie.Need-returns-4
 returns-4 c = subst⁻¹ (ConfidenceSet _) (c .enum-told .given .1) refl
 
 pub confidence-code-spec : {M : Type 1} → statement M
-confidence-code-spec = tie.close (tie.spec enum-known-confidence returns returns-2 cast-t7 enum-told returns-3 returns-4)
+confidence-code-spec =
+    tie.close
+    (tie.spec
+    (λ c. search needs) returns returns-2 (λ c. search needs) enum-told returns-3 returns-4)

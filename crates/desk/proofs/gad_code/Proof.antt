@@ -5,12 +5,6 @@ use borrow.Author.Needs.{needs}
 use Rattle.desk.proofs.gad_code.Statement.{statement}
 use Rattle.desk.proofs.gad_code.Tie as tie
 
-code-requires : tie.Need-code-requires
-code-requires c κs = search needs
-
-same-length : tie.Need-same-length
-same-length c = search needs
-
 returns : tie.Need-returns
 returns c =
     let given = c .before .before .before .before .before .before .args in
@@ -18,4 +12,4 @@ returns c =
     rw (toZ-ofZ {w = w64} {z = code .result .0} (search needs), ← toZ-ofZ {w = w64} {z = given .quantity} (search needs)) (code .ensures)
 
 pub gad-code-spec : {M : Type 1} → statement M
-gad-code-spec = tie.close (tie.spec code-requires same-length returns)
+gad-code-spec = tie.close (tie.spec (λ c κs. search needs) (λ c. search needs) returns)

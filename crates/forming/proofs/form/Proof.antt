@@ -10,48 +10,6 @@ use Rattle.forming.proofs.form.Tie as tie
 enum-told : tie.Need-enum-told
 enum-told c = search needs
 
-enum-told-2 : tie.Need-enum-told-2
-enum-told-2 c = search needs
-
-of-length-requires : tie.Need-of-length-requires
-of-length-requires c κs = search needs
-
-enum-told-3 : tie.Need-enum-told-3
-enum-told-3 c = search needs
-
-of-length-requires-2 : tie.Need-of-length-requires-2
-of-length-requires-2 c κs = search needs
-
-enum-told-4 : tie.Need-enum-told-4
-enum-told-4 c = search needs
-
-of-length-requires-3 : tie.Need-of-length-requires-3
-of-length-requires-3 c κs = search needs
-
-enum-told-5 : tie.Need-enum-told-5
-enum-told-5 c = search needs
-
-polygon-requires : tie.Need-polygon-requires
-polygon-requires c κs = search needs
-
-enum-told-6 : tie.Need-enum-told-6
-enum-told-6 c = search needs
-
-of-length-requires-4 : tie.Need-of-length-requires-4
-of-length-requires-4 c κs = search needs
-
-enum-told-7 : tie.Need-enum-told-7
-enum-told-7 c = search needs
-
-of-length-requires-5 : tie.Need-of-length-requires-5
-of-length-requires-5 c κs = search needs
-
-enum-told-8 : tie.Need-enum-told-8
-enum-told-8 c = search needs
-
-of-length-requires-6 : tie.Need-of-length-requires-6
-of-length-requires-6 c κs = search needs
-
 returns : tie.Need-returns
 returns c = nothing _ _ _ _ (c .enum-told .given .1) refl
 
@@ -80,26 +38,7 @@ pub form-spec : {M : Type 1} → statement M
 form-spec =
     tie.close
     (tie.spec
-    enum-told
-    enum-told-2
-    of-length-requires
-    enum-told-3
-    of-length-requires-2
-    enum-told-4
-    of-length-requires-3
-    enum-told-5
-    polygon-requires
-    enum-told-6
-    of-length-requires-4
-    enum-told-7
-    of-length-requires-5
-    enum-told-8
-    of-length-requires-6
-    returns
-    returns-2
-    returns-3
-    returns-4
-    returns-5
-    returns-6
-    returns-7
-    returns-8)
+    enum-told (λ c. search needs) (λ c κs. search needs) (λ c. search needs) (λ c κs. search needs)
+    (λ c. search needs) (λ c κs. search needs) (λ c. search needs) (λ c κs. search needs) (λ c. search needs)
+    (λ c κs. search needs) (λ c. search needs) (λ c κs. search needs) (λ c. search needs)
+    (λ c κs. search needs) returns returns-2 returns-3 returns-4 returns-5 returns-6 returns-7 returns-8)

@@ -7,12 +7,6 @@ use borrow.Author.Needs.{needs}
 use Rattle.forming.proofs.polygon.Statement.{statement}
 use Rattle.forming.proofs.polygon.Tie as tie
 
-mul-whole : tie.Need-mul-whole
-mul-whole c = search needs
-
-add-whole : tie.Need-add-whole
-add-whole c = search needs
-
 returns : tie.Need-returns
 returns c = few _ _ _ (omega (arith, c .if1 .taken)) refl
 
@@ -23,4 +17,4 @@ returns-3 : tie.Need-returns-3
 returns-3 c = enough _ _ _ (c .before .before .pre) (omega (arith, c .before .if1 .left)) (met (omega (arith, c .if2 .left)) refl)
 
 pub polygon-spec : {M : Type 1} → statement M
-polygon-spec = tie.close (tie.spec mul-whole add-whole returns returns-2 returns-3)
+polygon-spec = tie.close (tie.spec (λ c. search needs) (λ c. search needs) returns returns-2 returns-3)

@@ -16,33 +16,6 @@ returns-2 c = rw (not-false (c .before .before .before .before .args .last) (c .
 returns-3 : tie.Need-returns-3
 returns-3 c = rw (not-false (c .before .before .before .before .args .last) (c .before .if2 .left)) (sym (short-broken _ (c .before .before .if1 .taken) (c .if3 .left)))
 
-shared-slice-read-wide : tie.Need-shared-slice-read-wide
-shared-slice-read-wide c = search needs
-
-wide-requires : tie.Need-wide-requires
-wide-requires c κs = search needs
-
-mul-length : tie.Need-mul-length
-mul-length c = search needs
-
-shared-slice-read-wide-2 : tie.Need-shared-slice-read-wide-2
-shared-slice-read-wide-2 c = search needs
-
-wide-requires-2 : tie.Need-wide-requires-2
-wide-requires-2 c κs = search needs
-
-add-length : tie.Need-add-length
-add-length c = search needs
-
-shared-slice-read-kind : tie.Need-shared-slice-read-kind
-shared-slice-read-kind c = search needs
-
-shared-slice-read-head-sound : tie.Need-shared-slice-read-head-sound
-shared-slice-read-head-sound c = search needs
-
-head-sound-requires : tie.Need-head-sound-requires
-head-sound-requires c κs = search needs
-
 returns-4 : tie.Need-returns-4
 returns-4 c =
     let given = c .before .before .before .before .before .before .before .before .before .before .args in
@@ -53,9 +26,6 @@ sub-size : tie.Need-sub-size
 sub-size c =
     let s = c .before .before .before .before .before .before .before .before .before .before .args .s .now in
     sound-head _ (getD s 2 0) (getD s 3 0) (sym (c .before .head-sound .ensures) ∙ not-false _ (c .if4 .left)) .low
-
-sub-if5 : tie.Need-sub-if5
-sub-if5 c = search needs
 
 returns-5 : tie.Need-returns-5
 returns-5 c =
@@ -79,21 +49,6 @@ pub next-frame-spec : {M : Type 1} → statement M
 next-frame-spec =
     tie.close
     (tie.spec
-    returns
-    returns-2
-    returns-3
-    shared-slice-read-wide
-    wide-requires
-    mul-length
-    shared-slice-read-wide-2
-    wide-requires-2
-    add-length
-    shared-slice-read-kind
-    shared-slice-read-head-sound
-    head-sound-requires
-    returns-4
-    sub-size
-    sub-if5
-    returns-5
-    returns-6
-    returns-7)
+    returns returns-2 returns-3 (λ c. search needs) (λ c κs. search needs) (λ c. search needs)
+    (λ c. search needs) (λ c κs. search needs) (λ c. search needs) (λ c. search needs) (λ c. search needs)
+    (λ c κs. search needs) returns-4 sub-size (λ c. search needs) returns-5 returns-6 returns-7)

@@ -1,4 +1,4 @@
--- The codes, then the fields. Assumes nothing.
+-- The codes, then the fields.
 use mathlib.Core.Path.{refl}
 use borrow.Author.Needs.{needs}
 use Rattle.ground.specs.Answers.{unmet, met}
@@ -7,20 +7,11 @@ use Rattle.judging.proofs.DemandLaws.{whole, codes-refused}
 use Rattle.judging.proofs.outcome.Statement.{statement}
 use Rattle.judging.proofs.outcome.Tie as tie
 
-codes-outcome-requires : tie.Need-codes-outcome-requires
-codes-outcome-requires c κs = search needs
-
-enum-known-why : tie.Need-enum-known-why
-enum-known-why c = search needs
-
 returns : tie.Need-returns
 returns c = codes-refused (c .before .why .given .0 .0) (rw (c .before .why .given .1) at (c .before .before .before .codes-outcome .ensures))
 
 enum-told : tie.Need-enum-told
 enum-told c = search needs
-
-in-fields-requires : tie.Need-in-fields-requires
-in-fields-requires c κs = search needs
 
 returns-2 : tie.Need-returns-2
 returns-2 c = whole (rw (c .before .before .enum-told .given .1) at (c .before .before .before .before .codes-outcome .ensures)) (unmet (refuted (c .before .in-fields .result) (c .if1 .taken) (c .before .in-fields .ensures)) refl)
@@ -32,10 +23,4 @@ pub outcome-spec : {M : Type 1} → statement M
 outcome-spec =
     tie.close
     (tie.spec
-    codes-outcome-requires
-    enum-known-why
-    returns
-    enum-told
-    in-fields-requires
-    returns-2
-    returns-3)
+    (λ c κs. search needs) (λ c. search needs) returns enum-told (λ c κs. search needs) returns-2 returns-3)

@@ -1,4 +1,4 @@
--- `lengths::altitude_code` meets its contract: the altitude is taken apart, and its size is in the step. Assumes nothing.
+-- `lengths::altitude_code` meets its contract: the altitude is taken apart, and its size is in the step.
 use borrow.Author.Needs.{needs}
 use mir.Syntax.{w32}
 use mir.Val.{SFits}
@@ -13,17 +13,11 @@ fits c = search needs
 cast-t4 : tie.Need-cast-t4
 cast-t4 c = wide-fits (fits c)
 
-taken-apart-requires : tie.Need-taken-apart-requires
-taken-apart-requires c κs = search needs
-
 returns : tie.Need-returns
 returns c = of-parts (wide-parts (fits (c .before .before .before)) (c .before .before .taken-apart .ensures)) (search needs)
-
-cast-t7 : tie.Need-cast-t7
-cast-t7 c = search needs
 
 returns-2 : tie.Need-returns-2
 returns-2 c = of-parts (wide-parts (fits (c .before .before .before)) (c .before .before .taken-apart .ensures)) (search needs)
 
 pub altitude-code-spec : {M : Type 1} → statement M
-altitude-code-spec = tie.close (tie.spec cast-t4 taken-apart-requires returns cast-t7 returns-2)
+altitude-code-spec = tie.close (tie.spec cast-t4 (λ c κs. search needs) returns (λ c. search needs) returns-2)

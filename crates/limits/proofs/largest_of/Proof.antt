@@ -1,49 +1,10 @@
--- Each row is the layout table's. Assumes nothing.
+-- Each row is the layout table's.
 use borrow.Author.Needs.{needs}
 use Rattle.limits.proofs.largest_of.Statement.{statement}
 use Rattle.limits.proofs.largest_of.Tie as tie
 
 enum-told : tie.Need-enum-told
 enum-told c = search needs
-
-enum-told-2 : tie.Need-enum-told-2
-enum-told-2 c = search needs
-
-positioned-requires : tie.Need-positioned-requires
-positioned-requires c κs = search needs
-
-enum-told-3 : tie.Need-enum-told-3
-enum-told-3 c = search needs
-
-positioned-requires-2 : tie.Need-positioned-requires-2
-positioned-requires-2 c κs = search needs
-
-enum-told-4 : tie.Need-enum-told-4
-enum-told-4 c = search needs
-
-positioned-requires-3 : tie.Need-positioned-requires-3
-positioned-requires-3 c κs = search needs
-
-enum-told-5 : tie.Need-enum-told-5
-enum-told-5 c = search needs
-
-enum-told-6 : tie.Need-enum-told-6
-enum-told-6 c = search needs
-
-positioned-requires-4 : tie.Need-positioned-requires-4
-positioned-requires-4 c κs = search needs
-
-enum-told-7 : tie.Need-enum-told-7
-enum-told-7 c = search needs
-
-positioned-requires-5 : tie.Need-positioned-requires-5
-positioned-requires-5 c κs = search needs
-
-enum-told-8 : tie.Need-enum-told-8
-enum-told-8 c = search needs
-
-positioned-requires-6 : tie.Need-positioned-requires-6
-positioned-requires-6 c κs = search needs
 
 returns : tie.Need-returns
 returns c = rw (c .enum-told .given .1)
@@ -73,25 +34,7 @@ pub largest-of-spec : {M : Type 1} → statement M
 largest-of-spec =
     tie.close
     (tie.spec
-    enum-told
-    enum-told-2
-    positioned-requires
-    enum-told-3
-    positioned-requires-2
-    enum-told-4
-    positioned-requires-3
-    enum-told-5
-    enum-told-6
-    positioned-requires-4
-    enum-told-7
-    positioned-requires-5
-    enum-told-8
-    positioned-requires-6
-    returns
-    returns-2
-    returns-3
-    returns-4
-    returns-5
-    returns-6
-    returns-7
-    returns-8)
+    enum-told (λ c. search needs) (λ c κs. search needs) (λ c. search needs) (λ c κs. search needs)
+    (λ c. search needs) (λ c κs. search needs) (λ c. search needs) (λ c. search needs) (λ c κs. search needs)
+    (λ c. search needs) (λ c κs. search needs) (λ c. search needs) (λ c κs. search needs) returns returns-2
+    returns-3 returns-4 returns-5 returns-6 returns-7 returns-8)

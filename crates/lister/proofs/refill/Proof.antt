@@ -4,12 +4,6 @@ use borrow.Author.Needs.{needs}
 use Rattle.lister.proofs.refill.Statement.{statement}
 use Rattle.lister.proofs.refill.Tie as tie
 
-read-more-requires : tie.Need-read-more-requires
-read-more-requires c κs = search needs
-
-same-length : tie.Need-same-length
-same-length c = search needs
-
 returns : tie.Need-returns
 returns c = record {
   sound = record { order = search needs; inside = c .before .before .read-more .ensures .inside };
@@ -21,4 +15,4 @@ returns c = record {
 }
 
 pub refill-spec : {M : Type 1} → statement M
-refill-spec = tie.close (tie.spec read-more-requires same-length returns)
+refill-spec = tie.close (tie.spec (λ c κs. search needs) (λ c. search needs) returns)

@@ -4,7 +4,7 @@ use mathlib.Core.Path.{_≡_, sym, _∙_, subst}
 use lib.Dec.{T}
 use mathlib.Core.Bool.{false}
 use lib.ListN.{length}
-use Rattle.steps.specs.Steps.{longestStep}
+use Rattle.listing.specs.Steps.{longestStep}
 use Rattle.lister.specs.Holding.{Sound, turnsLeft}
 use Rattle.lister.specs.Walking.{Walked}
 use Rattle.lister.proofs.TurnLaws.{stays-open}

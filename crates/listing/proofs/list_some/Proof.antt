@@ -22,26 +22,8 @@ loop-holds c = begun _ _ _ _
 sub-loop : tie.Need-sub-loop Inv-loop μ-loop
 sub-loop c = omega (arith, long (c .loop .inv))
 
-sub-rest : tie.Need-sub-rest Inv-loop μ-loop
-sub-rest c = omega arith
-
-part-rest-start : tie.Need-part-rest-start Inv-loop μ-loop
-part-rest-start c = omega arith
-
-part-rest-end : tie.Need-part-rest-end Inv-loop μ-loop
-part-rest-end c = omega arith
-
-next-frame-requires : tie.Need-next-frame-requires Inv-loop μ-loop
-next-frame-requires c κs = search needs
-
 put-step-requires : tie.Need-put-step-requires Inv-loop μ-loop
 put-step-requires c κs = (omega (arith, long (c .before .before .before .before .loop .inv)), (omega arith, rw (c .before .next-frame .ensures) (frame-there _ _)))
-
-enum-known-frame : tie.Need-enum-known-frame Inv-loop μ-loop
-enum-known-frame c = search needs
-
-ends-run-requires : tie.Need-ends-run-requires Inv-loop μ-loop
-ends-run-requires c κs = search needs
 
 same-length : tie.Need-same-length Inv-loop μ-loop
 same-length c = kept (c .before .before .before .before .put-step .ensures .puts) ∙ long (c .before .before .before .before .before .before .before .before .before .loop .inv)
@@ -54,9 +36,6 @@ add-taken c = let t = there (c .before .before .before .before .before .before .
 
 add-taken-2 : tie.Need-add-taken-2 Inv-loop μ-loop
 add-taken-2 c = let t = there (c .before .before .before .before .before .before .before .before .before .before .loop .inv) (c .before .frame .given .0 .0) (c .before .frame .given .0 .1 .0) (c .before .before .before .before .before .before .before .next-frame .ensures) (c .before .frame .given .1) in omega arith
-
-add-count : tie.Need-add-count Inv-loop μ-loop
-add-count c = search needs
 
 loop-less : tie.Need-loop-less Inv-loop μ-loop
 loop-less c = let t = there (c .before .before .before .before .before .before .before .before .before .before .loop .inv) (c .before .frame .given .0 .0) (c .before .frame .given .0 .1 .0) (c .before .before .before .before .before .before .before .next-frame .ensures) (c .before .frame .given .1) in omega arith
@@ -74,23 +53,6 @@ pub list-some-spec : {M : Type 1} → statement M
 list-some-spec =
     tie.close
     (tie.spec
-    Inv-loop
-    μ-loop
-    loop-holds
-    sub-loop
-    sub-rest
-    part-rest-start
-    part-rest-end
-    next-frame-requires
-    put-step-requires
-    enum-known-frame
-    ends-run-requires
-    same-length
-    returns
-    add-taken
-    add-taken-2
-    add-count
-    loop-less
-    loop-again
-    same-length-2
-    returns-2)
+    Inv-loop μ-loop loop-holds sub-loop (λ c. omega arith) (λ c. omega arith) (λ c. omega arith)
+    (λ c κs. search needs) put-step-requires (λ c. search needs) (λ c κs. search needs) same-length returns
+    add-taken add-taken-2 (λ c. search needs) loop-less loop-again same-length-2 returns-2)

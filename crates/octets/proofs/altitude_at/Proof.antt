@@ -11,9 +11,6 @@ use Rattle.octets.proofs.BitLaws.{bits-high, bits-low}
 use Rattle.octets.proofs.altitude_at.Statement.{statement}
 use Rattle.octets.proofs.altitude_at.Tie as tie
 
-word-requires : tie.Need-word-requires
-word-requires c κs = search needs
-
 by-parts : {a b : Bool} {m n : ℕ} → a ≡ b → m ≡ n → _≡_ {A = AltitudeCode} (record { 0 = a; 1 = m }) (record { 0 = b; 1 = n })
 by-parts sign number = λ i. record { 0 = sign i; 1 = number i }
 
@@ -25,4 +22,4 @@ returns c =
     rw e (by-parts (rw (bits-high s first 1 15)) (omega (arith, bits-low s first 1 15)))
 
 pub altitude-at-spec : {M : Type 1} → statement M
-altitude-at-spec = tie.close (tie.spec word-requires returns)
+altitude-at-spec = tie.close (tie.spec (λ c κs. search needs) returns)

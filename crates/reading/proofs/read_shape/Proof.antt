@@ -13,26 +13,8 @@ use Rattle.reading.proofs.read_shape.Tie as tie
 first : (c : tie.After-kind-of) → Starts (now (c .before .before .before .before .args .s)) (c .kind-of .result) (c .before .octet .result % 16)
 first c = starts _ _ _ (omega (arith, c .before .before .if1 .left)) (c .before .octet .ensures) (c .kind-of .ensures)
 
-refused-requires : tie.Need-refused-requires
-refused-requires c κs = search needs
-
 returns : tie.Need-returns
 returns c = refused-read (now (c .before .before .before .args .s)) _ _ (unmet (λ h. absurd (omega (arith, h, c .before .if1 .taken))) refl) (c .refused .ensures)
-
-octet-requires : tie.Need-octet-requires
-octet-requires c κs = search needs
-
-kind-of-requires : tie.Need-kind-of-requires
-kind-of-requires c κs = search needs
-
-form-requires : tie.Need-form-requires
-form-requires c κs = search needs
-
-enum-known-why : tie.Need-enum-known-why
-enum-known-why c = search needs
-
-refused-requires-2 : tie.Need-refused-requires-2
-refused-requires-2 c κs = search needs
 
 returns-2 : tie.Need-returns-2
 returns-2 c = form-refused _ _ _ (first (c .before .before .before .before .before)) _ (c .before .before .before .before .form .ensures) _ _ (c .before .before .why .given .1) (c .refused2 .ensures)
@@ -43,20 +25,8 @@ enum-told c = search needs
 shape-requires : tie.Need-shape-requires
 shape-requires c κs = (first (c .before .before .before) .count, of-length _ _ _ (first (c .before .before .before)) _ (c .before .before .form .ensures) (c .enum-told .given .1))
 
-codes-outcome-requires : tie.Need-codes-outcome-requires
-codes-outcome-requires c κs = search needs
-
-enum-known-why-2 : tie.Need-enum-known-why-2
-enum-known-why-2 c = search needs
-
-refused-requires-3 : tie.Need-refused-requires-3
-refused-requires-3 c κs = search needs
-
 returns-3 : tie.Need-returns-3
 returns-3 c = codes-refused _ _ _ (first (c .before .before .before .before .before .before .before .before .before)) _ (c .before .before .before .before .before .before .before .before .form .ensures) _ (c .before .before .before .before .before .before .enum-told .given .1) (c .before .before .before .before .before .shape .ensures) _ (c .before .before .before .before .codes-outcome .ensures) _ _ (c .before .before .why2 .given .1) (c .refused3 .ensures)
-
-enum-told-2 : tie.Need-enum-told-2
-enum-told-2 c = search needs
 
 returns-4 : tie.Need-returns-4
 returns-4 c = done-read _ _ _ (first (c .before .before .before .before .before .before .before)) _ (c .before .before .before .before .before .before .form .ensures) _ (c .before .before .before .before .enum-told .given .1) (c .before .before .before .shape .ensures) _ (c .before .before .codes-outcome .ensures) (c .enum-told2 .given .1)
@@ -65,19 +35,6 @@ pub read-shape-spec : {M : Type 1} → statement M
 read-shape-spec =
     tie.close
     (tie.spec
-    refused-requires
-    returns
-    octet-requires
-    kind-of-requires
-    form-requires
-    enum-known-why
-    refused-requires-2
-    returns-2
-    enum-told
-    shape-requires
-    codes-outcome-requires
-    enum-known-why-2
-    refused-requires-3
-    returns-3
-    enum-told-2
-    returns-4)
+    (λ c κs. search needs) returns (λ c κs. search needs) (λ c κs. search needs) (λ c κs. search needs)
+    (λ c. search needs) (λ c κs. search needs) returns-2 enum-told shape-requires (λ c κs. search needs)
+    (λ c. search needs) (λ c κs. search needs) returns-3 (λ c. search needs) returns-4)

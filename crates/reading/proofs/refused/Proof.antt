@@ -4,11 +4,8 @@ use borrow.Author.Needs.{needs}
 use Rattle.reading.proofs.refused.Statement.{statement}
 use Rattle.reading.proofs.refused.Tie as tie
 
-blank-shape-requires : tie.Need-blank-shape-requires
-blank-shape-requires c κs = search needs
-
 returns : tie.Need-returns
 returns c = record { outcome = refl; shape = c .blank-shape .ensures }
 
 pub refused-spec : {M : Type 1} → statement M
-refused-spec = tie.close (tie.spec blank-shape-requires returns)
+refused-spec = tie.close (tie.spec (λ c κs. search needs) returns)

@@ -1,4 +1,4 @@
--- `speeds::reported_vertical_speed` meets its contract: 1000·N, joined with the sign. Assumes nothing.
+-- `speeds::reported_vertical_speed` meets its contract: 1000·N, joined with the sign.
 use mathlib.Core.Path.{_∙_, ap}
 use Prim.Native.Nat.{_*_}
 use native.Mathlib.Nat.{mul-comm}
@@ -9,15 +9,6 @@ use Rattle.ground.specs.Signs.{signed}
 use Rattle.ground.proofs.SignLaws.{narrow-fits, narrow-is}
 use Rattle.speeds.proofs.reported_vertical_speed.Statement.{statement}
 use Rattle.speeds.proofs.reported_vertical_speed.Tie as tie
-
-cast-t4 : tie.Need-cast-t4
-cast-t4 c = search needs
-
-mul-t5 : tie.Need-mul-t5
-mul-t5 c = search needs
-
-joined-requires : tie.Need-joined-requires
-joined-requires c κs = search needs
 
 fits : (c : tie.After-struct-told) → SFits w64 (c .before .before .joined .result .0)
 fits c = search needs
@@ -36,4 +27,7 @@ returns c =
     }
 
 pub reported-vertical-speed-spec : {M : Type 1} → statement M
-reported-vertical-speed-spec = tie.close (tie.spec cast-t4 mul-t5 joined-requires cast-t7 returns)
+reported-vertical-speed-spec =
+    tie.close
+    (tie.spec
+    (λ c. search needs) (λ c. search needs) (λ c κs. search needs) cast-t7 returns)

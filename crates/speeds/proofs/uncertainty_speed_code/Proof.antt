@@ -1,4 +1,4 @@
--- `speeds::uncertainty_speed_code` meets its contract, in each arm for the uncertainty that it matched. Assumes nothing.
+-- `speeds::uncertainty_speed_code` meets its contract, in each arm for the uncertainty that it matched.
 use mathlib.Core.Path.{refl, subst⁻¹}
 use Prim.Native.Nat.{_+_, _/_}
 use borrow.Author.Needs.{needs}
@@ -7,17 +7,8 @@ use Rattle.speeds.specs.Speeds.{UncertaintySpeedCodes, TooFast}
 use Rattle.speeds.proofs.uncertainty_speed_code.Statement.{statement}
 use Rattle.speeds.proofs.uncertainty_speed_code.Tie as tie
 
-enum-known-uncertainty : tie.Need-enum-known-uncertainty
-enum-known-uncertainty c = search needs
-
 returns : tie.Need-returns
 returns c = (refl, subst⁻¹ TooFast (c .before .before .uncertainty .given .1) (search needs))
-
-add-t7 : tie.Need-add-t7
-add-t7 c = search needs
-
-cast-t9 : tie.Need-cast-t9
-cast-t9 c = search needs
 
 enum-told : tie.Need-enum-told
 enum-told c = search needs
@@ -32,4 +23,6 @@ returns-3 c = subst⁻¹ (λ (u : UncertaintySpeed). UncertaintySpeedCodes u 255
 
 pub uncertainty-speed-code-spec : {M : Type 1} → statement M
 uncertainty-speed-code-spec =
-    tie.close (tie.spec enum-known-uncertainty returns add-t7 cast-t9 enum-told returns-2 returns-3)
+    tie.close
+    (tie.spec
+    (λ c. search needs) returns (λ c. search needs) (λ c. search needs) enum-told returns-2 returns-3)

@@ -11,9 +11,6 @@ mul-result c = omega (arith, pairs-less (c .pre))
 add-result : tie.Need-add-result
 add-result c = omega (arith, pairs-less (c .pre))
 
-tens-of-requires : tie.Need-tens-of-requires
-tens-of-requires c κs = search needs
-
 mul-result-2 : tie.Need-mul-result-2
 mul-result-2 c = omega (arith, pairs-less (c .before .pre), tens-less (c .before .pre) (c .tens-of .ensures))
 
@@ -24,4 +21,7 @@ returns : tie.Need-returns
 returns c = λ p. digits-found p (c .tens-of .ensures)
 
 pub digits-of-spec : {M : Type 1} → statement M
-digits-of-spec = tie.close (tie.spec mul-result add-result tens-of-requires mul-result-2 sub-result returns)
+digits-of-spec =
+    tie.close
+    (tie.spec
+    mul-result add-result (λ c κs. search needs) mul-result-2 sub-result returns)

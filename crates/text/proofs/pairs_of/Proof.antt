@@ -5,29 +5,11 @@ use borrow.Author.Needs.{needs}
 use Rattle.text.proofs.pairs_of.Statement.{statement}
 use Rattle.text.proofs.pairs_of.Tie as tie
 
-mul-halves : tie.Need-mul-halves
-mul-halves c = search needs
-
-sub-halves : tie.Need-sub-halves
-sub-halves c = search needs
-
-mul-halves-2 : tie.Need-mul-halves-2
-mul-halves-2 c = search needs
-
-add-halves : tie.Need-add-halves
-add-halves c = search needs
-
-mul-scaled : tie.Need-mul-scaled
-mul-scaled c = search needs
-
 mul-hundreds : tie.Need-mul-hundreds
 mul-hundreds c = rw (lower-hundreds (c .pre)) (omega arith)
 
 add-hundreds : tie.Need-add-hundreds
 add-hundreds c = rw (upper-hundreds (c .pre), lower-hundreds (c .pre)) (omega arith)
-
-mul-result : tie.Need-mul-result
-mul-result c = search needs
 
 mul-result-2 : tie.Need-mul-result-2
 mul-result-2 c = rw (upper-hundreds (c .pre), lower-hundreds (c .pre)) (omega arith)
@@ -42,14 +24,5 @@ pub pairs-of-spec : {M : Type 1} → statement M
 pairs-of-spec =
     tie.close
     (tie.spec
-    mul-halves
-    sub-halves
-    mul-halves-2
-    add-halves
-    mul-scaled
-    mul-hundreds
-    add-hundreds
-    mul-result
-    mul-result-2
-    sub-result
-    returns)
+    (λ c. search needs) (λ c. search needs) (λ c. search needs) (λ c. search needs) (λ c. search needs)
+    mul-hundreds add-hundreds (λ c. search needs) mul-result-2 sub-result returns)

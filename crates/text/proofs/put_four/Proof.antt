@@ -6,47 +6,17 @@ use borrow.Author.Needs.{needs}
 use Rattle.text.proofs.put_four.Statement.{statement}
 use Rattle.text.proofs.put_four.Tie as tie
 
-two-pairs-of-requires : tie.Need-two-pairs-of-requires
-two-pairs-of-requires c κs = search needs
-
 digits-of-requires : tie.Need-digits-of-requires
 digits-of-requires c κs = two-pairs (c .before .before .pre .0) (c .two-pairs-of .ensures)
-
-cast-out : tie.Need-cast-out
-cast-out c = search needs
-
-slice-write-out : tie.Need-slice-write-out
-slice-write-out c = search needs
-
-cast-out-2 : tie.Need-cast-out-2
-cast-out-2 c = search needs
-
-add-out : tie.Need-add-out
-add-out c = search needs
 
 slice-write-out-2 : tie.Need-slice-write-out-2
 slice-write-out-2 c = simp length-set (omega arith)
 
-cast-out-3 : tie.Need-cast-out-3
-cast-out-3 c = search needs
-
-add-out-2 : tie.Need-add-out-2
-add-out-2 c = search needs
-
 slice-write-out-3 : tie.Need-slice-write-out-3
 slice-write-out-3 c = simp length-set (omega arith)
 
-cast-out-4 : tie.Need-cast-out-4
-cast-out-4 c = search needs
-
-add-out-3 : tie.Need-add-out-3
-add-out-3 c = search needs
-
 slice-write-out-4 : tie.Need-slice-write-out-4
 slice-write-out-4 c = simp length-set (omega arith)
-
-add-result : tie.Need-add-result
-add-result c = search needs
 
 same-length : tie.Need-same-length
 same-length c = simp length-set
@@ -58,19 +28,6 @@ pub put-four-spec : {M : Type 1} → statement M
 put-four-spec =
     tie.close
     (tie.spec
-    two-pairs-of-requires
-    digits-of-requires
-    cast-out
-    slice-write-out
-    cast-out-2
-    add-out
-    slice-write-out-2
-    cast-out-3
-    add-out-2
-    slice-write-out-3
-    cast-out-4
-    add-out-3
-    slice-write-out-4
-    add-result
-    same-length
-    returns)
+    (λ c κs. search needs) digits-of-requires (λ c. search needs) (λ c. search needs) (λ c. search needs)
+    (λ c. search needs) slice-write-out-2 (λ c. search needs) (λ c. search needs) slice-write-out-3
+    (λ c. search needs) (λ c. search needs) slice-write-out-4 (λ c. search needs) same-length returns)

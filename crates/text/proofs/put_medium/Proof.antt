@@ -5,23 +5,11 @@ use borrow.Author.Needs.{needs}
 use Rattle.text.proofs.put_medium.Statement.{statement}
 use Rattle.text.proofs.put_medium.Tie as tie
 
-put-short-requires : tie.Need-put-short-requires
-put-short-requires c κs = search needs
-
-same-length : tie.Need-same-length
-same-length c = search needs
-
-returns : tie.Need-returns
-returns c = search needs
-
 put-short-requires-2 : tie.Need-put-short-requires-2
 put-short-requires-2 c κs = (omega arith, omega (arith, fours-length {n = c .before .before .before .args .n} (omega arith)))
 
 put-four-requires : tie.Need-put-four-requires
 put-four-requires c κs = (omega arith, omega (arith, fours-length {n = c .before .before .before .before .before .before .before .args .n} (omega arith), c .before .before .before .put-short2 .ensures .place, c .before .before .before .put-short2 .kept .0))
-
-same-length-2 : tie.Need-same-length-2
-same-length-2 c = search needs
 
 returns-2 : tie.Need-returns-2
 returns-2 c = rw (decimal-fours {n = c .before .before .before .before .before .before .before .before .before .before .args .n} (omega arith)) (then (c .before .before .before .before .before .before .put-short2 .ensures) (c .before .before .put-four .ensures))
@@ -30,10 +18,5 @@ pub put-medium-spec : {M : Type 1} → statement M
 put-medium-spec =
     tie.close
     (tie.spec
-    put-short-requires
-    same-length
-    returns
-    put-short-requires-2
-    put-four-requires
-    same-length-2
-    returns-2)
+    (λ c κs. search needs) (λ c. search needs) (λ c. search needs) put-short-requires-2 put-four-requires
+    (λ c. search needs) returns-2)

@@ -7,9 +7,6 @@ use Rattle.text.proofs.OutputLaws.{then, minus-text, plus-text}
 use Rattle.text.proofs.put_number.Statement.{statement}
 use Rattle.text.proofs.put_number.Tie as tie
 
-taken-apart-requires : tie.Need-taken-apart-requires
-taken-apart-requires c κs = search needs
-
 put-byte-requires : tie.Need-put-byte-requires
 put-byte-requires c κs =
     let x = c .before .before .before .before .args .x .0 in
@@ -23,9 +20,6 @@ put-decimal-requires c κs =
     let p = c .before .before .before .before .before .before .taken-apart in
     let e = minus-text x (p .result) (p .ensures) (c .before .before .before .before .before .if1 .taken) in
     omega (arith, ap length e)
-
-same-length : tie.Need-same-length
-same-length c = search needs
 
 returns : tie.Need-returns
 returns c =
@@ -41,9 +35,6 @@ put-decimal-requires-2 c κs =
     let e = plus-text x (p .result) (p .ensures) (c .before .if1 .left) in
     omega (arith, ap length e)
 
-same-length-2 : tie.Need-same-length-2
-same-length-2 c = search needs
-
 returns-2 : tie.Need-returns-2
 returns-2 c =
     let x = c .before .before .before .before .before .before .before .args .x .0 in
@@ -55,11 +46,5 @@ pub put-number-spec : {M : Type 1} → statement M
 put-number-spec =
     tie.close
     (tie.spec
-    taken-apart-requires
-    put-byte-requires
-    put-decimal-requires
-    same-length
-    returns
-    put-decimal-requires-2
-    same-length-2
-    returns-2)
+    (λ c κs. search needs) put-byte-requires put-decimal-requires (λ c. search needs) returns
+    put-decimal-requires-2 (λ c. search needs) returns-2)

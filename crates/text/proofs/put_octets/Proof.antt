@@ -21,26 +21,11 @@ loop-holds : tie.Need-loop-holds Inv-loop μ-loop
 unfolding octetsText
 loop-holds c = (omega arith, omega arith, none, refl)
 
-shared-slice-read-put-octet : tie.Need-shared-slice-read-put-octet Inv-loop μ-loop
-shared-slice-read-put-octet c = search needs
-
-put-octet-requires : tie.Need-put-octet-requires Inv-loop μ-loop
-put-octet-requires c κs = search needs
-
-add-i : tie.Need-add-i Inv-loop μ-loop
-add-i c = search needs
-
-loop-less : tie.Need-loop-less Inv-loop μ-loop
-loop-less c = search needs
-
 loop-again : tie.Need-loop-again Inv-loop μ-loop
 loop-again c =
     let l = c .before .before .before .before .before .before .loop in
     let p = c .before .before .put-octet .ensures in
     (omega arith, omega (arith, p .place), octets-turn (c .before .before .before .before .before .before .before .before .before .args .src .now) (l .i) (c .before .before .before .before .before .loop-test .taken) (l .inv .2) p, kept p ∙ l .inv .3)
-
-same-length : tie.Need-same-length Inv-loop μ-loop
-same-length c = search needs
 
 returns : tie.Need-returns Inv-loop μ-loop
 returns c =
@@ -51,13 +36,5 @@ pub put-octets-spec : {M : Type 1} → statement M
 put-octets-spec =
     tie.close
     (tie.spec
-    Inv-loop
-    μ-loop
-    loop-holds
-    shared-slice-read-put-octet
-    put-octet-requires
-    add-i
-    loop-less
-    loop-again
-    same-length
-    returns)
+    Inv-loop μ-loop loop-holds (λ c. search needs) (λ c κs. search needs) (λ c. search needs)
+    (λ c. search needs) loop-again (λ c. search needs) returns)

@@ -7,17 +7,8 @@ use borrow.Author.Needs.{needs}
 use Rattle.text.proofs.put_short.Statement.{statement}
 use Rattle.text.proofs.put_short.Tie as tie
 
-add-put-byte : tie.Need-add-put-byte
-add-put-byte c = search needs
-
-cast-put-byte : tie.Need-cast-put-byte
-cast-put-byte c = search needs
-
 put-byte-requires : tie.Need-put-byte-requires
 put-byte-requires c κs = omega (arith, ap length (decimal-small {n = c .before .before .before .args .n} (omega arith)), c .before .before .before .pre .1)
-
-same-length : tie.Need-same-length
-same-length c = search needs
 
 returns : tie.Need-returns
 returns c = rw (decimal-small {n = c .before .before .before .before .before .before .args .n} (omega arith)) (c .before .before .put-byte .ensures)
@@ -25,17 +16,8 @@ returns c = rw (decimal-small {n = c .before .before .before .before .before .be
 put-pair-requires : tie.Need-put-pair-requires
 put-pair-requires c κs = (omega arith, omega (arith, ap length (decimal-pair {n = c .before .before .before .before .args .n} (omega arith) (omega arith)), c .before .before .before .before .pre .1))
 
-same-length-2 : tie.Need-same-length-2
-same-length-2 c = search needs
-
 returns-2 : tie.Need-returns-2
 returns-2 c = rw (decimal-pair {n = c .before .before .before .before .before .before .before .args .n} (omega arith) (omega arith)) (c .before .before .put-pair .ensures)
-
-add-put-byte-2 : tie.Need-add-put-byte-2
-add-put-byte-2 c = search needs
-
-cast-put-byte-2 : tie.Need-cast-put-byte-2
-cast-put-byte-2 c = search needs
 
 put-byte-requires-2 : tie.Need-put-byte-requires-2
 put-byte-requires-2 c κs = omega (arith, ap length (decimal-three {n = c .before .before .before .before .before .args .n} (omega arith) (omega arith)), c .before .before .before .before .before .pre .1)
@@ -43,17 +25,11 @@ put-byte-requires-2 c κs = omega (arith, ap length (decimal-three {n = c .befor
 put-pair-requires-2 : tie.Need-put-pair-requires-2
 put-pair-requires-2 c κs = (omega arith, omega (arith, ap length (decimal-three {n = c .before .before .before .before .before .before .before .before .before .args .n} (omega arith) (omega arith)), c .before .before .before .before .before .before .before .before .before .pre .1, c .before .before .before .put-byte2 .ensures .place, c .before .before .before .put-byte2 .kept .0))
 
-same-length-3 : tie.Need-same-length-3
-same-length-3 c = search needs
-
 returns-3 : tie.Need-returns-3
 returns-3 c = rw (decimal-three {n = c .before .before .before .before .before .before .before .before .before .before .before .before .args .n} (omega arith) (omega arith)) (then (c .before .before .before .before .before .before .put-byte2 .ensures) (c .before .before .put-pair2 .ensures))
 
 put-four-requires : tie.Need-put-four-requires
 put-four-requires c κs = (c .before .before .before .before .before .pre .0, omega (arith, ap length (decimal-four {n = c .before .before .before .before .before .args .n} (omega arith) (c .before .before .before .before .before .pre .0)), c .before .before .before .before .before .pre .1))
-
-same-length-4 : tie.Need-same-length-4
-same-length-4 c = search needs
 
 returns-4 : tie.Need-returns-4
 returns-4 c = rw (decimal-four {n = c .before .before .before .before .before .before .before .before .args .n} (omega arith) (c .before .before .before .before .before .before .before .before .pre .0)) (c .before .before .put-four .ensures)
@@ -62,20 +38,6 @@ pub put-short-spec : {M : Type 1} → statement M
 put-short-spec =
     tie.close
     (tie.spec
-    add-put-byte
-    cast-put-byte
-    put-byte-requires
-    same-length
-    returns
-    put-pair-requires
-    same-length-2
-    returns-2
-    add-put-byte-2
-    cast-put-byte-2
-    put-byte-requires-2
-    put-pair-requires-2
-    same-length-3
-    returns-3
-    put-four-requires
-    same-length-4
-    returns-4)
+    (λ c. search needs) (λ c. search needs) put-byte-requires (λ c. search needs) returns put-pair-requires
+    (λ c. search needs) returns-2 (λ c. search needs) (λ c. search needs) put-byte-requires-2
+    put-pair-requires-2 (λ c. search needs) returns-3 put-four-requires (λ c. search needs) returns-4)

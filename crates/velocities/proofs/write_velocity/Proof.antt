@@ -3,37 +3,29 @@ use native.Mathlib.Omega.{arith}
 use denote.Ref.{now}
 use Rattle.layout.specs.Velocities.{velocityValueOf}
 use Rattle.layout.proofs.WriteLaws.{done-answer, done-writes, refused-writes}
-use Rattle.carrying.specs.Carrying.{rowsOf}
+use Rattle.velocity_octets.specs.Carrying.{velocityRowsOf}
 use Rattle.velocities.proofs.WriteLaws.{storable}
 use borrow.Author.Needs.{needs}
 use Rattle.velocities.proofs.write_velocity.Statement.{statement}
 use Rattle.velocities.proofs.write_velocity.Tie as tie
 
-of-record-requires : tie.Need-of-record-requires
-of-record-requires c κs = search needs
-
-written-requires : tie.Need-written-requires
-written-requires c κs = search needs
-
 put-requires : tie.Need-put-requires
 put-requires c κs =
     let a = c .before .before .before .before .before .args in
-    storable (a .velocity) _ (done-answer (rowsOf (a .velocity)) (velocityValueOf (a .velocity)) (now (a .out)) _ (c .before .before .before .of-record .result) (c .before .before .before .of-record .ensures) (c .before .before .written .ensures) (omega (arith, c .before .if1 .taken)))
-
-same-length : tie.Need-same-length
-same-length c = search needs
+    storable (a .velocity) _ (done-answer (velocityRowsOf (a .velocity)) (velocityValueOf (a .velocity)) (now (a .out)) _ (c .before .before .before .of-record .result) (c .before .before .before .of-record .ensures) (c .before .before .written .ensures) (omega (arith, c .before .if1 .taken)))
 
 returns : tie.Need-returns
 returns c =
     let a = c .before .before .before .before .before .before .before .before .args in
-    done-writes (rowsOf (a .velocity)) (velocityValueOf (a .velocity)) (now (a .out)) _ _ _ (c .before .before .before .before .before .before .of-record .ensures) (c .before .before .before .before .before .written .ensures) (omega (arith, c .before .before .before .before .if1 .taken)) (c .before .before .put .ensures)
+    done-writes (velocityRowsOf (a .velocity)) (velocityValueOf (a .velocity)) (now (a .out)) _ _ _ (c .before .before .before .before .before .before .of-record .ensures) (c .before .before .before .before .before .written .ensures) (omega (arith, c .before .before .before .before .if1 .taken)) (c .before .before .put .ensures)
 
 returns-2 : tie.Need-returns-2
 returns-2 c =
     let a = c .before .before .before .before .args in
-    refused-writes (rowsOf (a .velocity)) (velocityValueOf (a .velocity)) (now (a .out)) _ _ (c .before .before .of-record .ensures) (c .before .written .ensures) (omega (arith, c .if1 .left))
+    refused-writes (velocityRowsOf (a .velocity)) (velocityValueOf (a .velocity)) (now (a .out)) _ _ (c .before .before .of-record .ensures) (c .before .written .ensures) (omega (arith, c .if1 .left))
 
 pub write-velocity-spec : {M : Type 1} → statement M
 write-velocity-spec =
     tie.close
-    (tie.spec of-record-requires written-requires put-requires same-length returns returns-2)
+    (tie.spec
+    (λ c κs. search needs) (λ c κs. search needs) put-requires (λ c. search needs) returns returns-2)

@@ -4,7 +4,7 @@ use mathlib.Core.Path.{_≡_, sym, ap}
 use native.Mathlib.Omega.{arith}
 use denote.Ref.{now}
 use Rattle.wording.specs.Wording.{messageText}
-use Rattle.words.proofs.WordLaws.{worded}
+use Rattle.wording.proofs.NumberLaws.{worded}
 use Rattle.wording.proofs.MessageLaws.{other-kind}
 use Rattle.wording.proofs.put_message.Statement.{statement}
 use Rattle.wording.proofs.put_message.Tie as tie

@@ -10,23 +10,11 @@ use borrow.Author.Needs.{needs}
 use Rattle.choice.proofs.kind.area_kind.Statement.{statement}
 use Rattle.choice.proofs.kind.area_kind.Tie as tie
 
-if-listed-requires : tie.Need-if-listed-requires
-if-listed-requires c κs = search needs
-
 returns : tie.Need-returns
 returns c = found-only (c .before .before .before .args .wanted) (Listed (c .before .before .before .args .list)) Ellipse (able-ellipse (c .before .before .before .args .wanted) (c .before .before .before .pre .0) (c .before .before .before .pre .2) (c .before .before .before .pre .1)) (by-area (c .before .before .before .args .wanted) (c .before .before .before .pre .0) (c .before .before .before .pre .2) (λ j. Listed (c .before .before .before .args .list) j → j ≡ Ellipse) (λ a t. absurd (omega (arith, a .confidences refl, c .before .if1 .taken))) (λ a t. refl)) (c .if-listed .result) (c .if-listed .ensures)
 
-listed-requires : tie.Need-listed-requires
-listed-requires c κs = search needs
-
-if-listed-requires-2 : tie.Need-if-listed-requires-2
-if-listed-requires-2 c κs = search needs
-
 returns-2 : tie.Need-returns-2
 returns-2 c = found-only (c .before .before .before .before .before .args .wanted) (Listed (c .before .before .before .before .before .args .list)) Ellipse (able-ellipse (c .before .before .before .before .before .args .wanted) (c .before .before .before .before .before .pre .0) (c .before .before .before .before .before .pre .2) (c .before .before .before .before .before .pre .1)) (by-area (c .before .before .before .before .before .args .wanted) (c .before .before .before .before .before .pre .0) (c .before .before .before .before .before .pre .2) (λ j. Listed (c .before .before .before .before .before .args .list) j → j ≡ Ellipse) (λ a t. absurd (refuted (c .before .before .listed .result) (c .before .if2 .taken) (c .before .before .listed .ensures) t)) (λ a t. refl)) (c .if-listed2 .result) (c .if-listed2 .ensures)
-
-listed-requires-2 : tie.Need-listed-requires-2
-listed-requires-2 c κs = search needs
 
 returns-3 : tie.Need-returns-3
 returns-3 c = ellipse-best (c .before .before .before .before .before .before .before .before .args .wanted) (Listed (c .before .before .before .before .before .before .before .before .args .list)) (c .before .before .before .before .before .before .before .before .pre .0) (c .before .before .before .before .before .before .before .before .pre .2) (able-ellipse (c .before .before .before .before .before .before .before .before .args .wanted) (c .before .before .before .before .before .before .before .before .pre .0) (c .before .before .before .before .before .before .before .before .pre .2) (c .before .before .before .before .before .before .before .before .pre .1)) (rw (c .if4 .taken) at (c .before .listed2 .ensures)) (λ a t. c .before .before .if3 .taken)
@@ -41,12 +29,5 @@ pub area-kind-spec : {M : Type 1} → statement M
 area-kind-spec =
     tie.close
     (tie.spec
-    if-listed-requires
-    returns
-    listed-requires
-    if-listed-requires-2
-    returns-2
-    listed-requires-2
-    returns-3
-    returns-4
-    returns-5)
+    (λ c κs. search needs) returns (λ c κs. search needs) (λ c κs. search needs) returns-2
+    (λ c κs. search needs) returns-3 returns-4 returns-5)

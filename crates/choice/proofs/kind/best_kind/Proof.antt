@@ -8,26 +8,11 @@ use borrow.Author.Needs.{needs}
 use Rattle.choice.proofs.kind.best_kind.Statement.{statement}
 use Rattle.choice.proofs.kind.best_kind.Tie as tie
 
-elevated-kind-requires : tie.Need-elevated-kind-requires
-elevated-kind-requires c κs = search needs
-
-returns : tie.Need-returns
-returns c = search needs
-
 returns-2 : tie.Need-returns-2
 returns-2 c = λ k a t. no-kind-aloft (c .before .before .args .wanted) (c .before .if1 .left) (c .if2 .taken) k a
 
-area-kind-requires : tie.Need-area-kind-requires
-area-kind-requires c κs = search needs
-
-returns-3 : tie.Need-returns-3
-returns-3 c = search needs
-
 returns-4 : tie.Need-returns-4
 returns-4 c = λ k a t. no-kind-sure (c .before .before .before .before .before .args .wanted) (c .before .before .before .before .if1 .left) (c .before .before .if3 .left) (λ e. omega (arith, c .if4 .taken)) k a
-
-if-listed-requires : tie.Need-if-listed-requires
-if-listed-requires c κs = search needs
 
 returns-5 : tie.Need-returns-5
 returns-5 c = found-only (c .before .before .before .before .before .before .args .wanted) (Listed (c .before .before .before .before .before .before .args .list)) Point (able-point (c .before .before .before .before .before .before .args .wanted) (c .before .before .before .before .before .if1 .left) (c .before .before .before .if3 .left) (c .before .before .before .before .if2 .left) (omega (arith, c .before .if4 .left))) (λ j a t. only-point (c .before .before .before .before .before .before .args .wanted) (c .before .before .before .before .before .if1 .left) (c .before .before .before .if3 .left) j a) (c .if-listed .result) (c .if-listed .ensures)
@@ -36,11 +21,5 @@ pub best-kind-spec : {M : Type 1} → statement M
 best-kind-spec =
     tie.close
     (tie.spec
-    elevated-kind-requires
-    returns
-    returns-2
-    area-kind-requires
-    returns-3
-    returns-4
-    if-listed-requires
-    returns-5)
+    (λ c κs. search needs) (λ c. search needs) returns-2 (λ c κs. search needs) (λ c. search needs) returns-4
+    (λ c κs. search needs) returns-5)

@@ -10,9 +10,6 @@ use borrow.Author.Needs.{needs}
 use Rattle.choice.proofs.kind.elevated_kind.Statement.{statement}
 use Rattle.choice.proofs.kind.elevated_kind.Tie as tie
 
-if-listed-requires : tie.Need-if-listed-requires
-if-listed-requires c κs = search needs
-
 returns : tie.Need-returns
 returns c = found-only (c .before .before .before .args .wanted) (Listed (c .before .before .before .args .list)) AltitudeEllipsoid (able-ellipsoid (c .before .before .before .args .wanted) (c .before .before .before .pre) (c .before .before .if1 .taken) (c .before .if2 .taken)) (λ j a t. only-ellipsoid (c .before .before .before .args .wanted) (c .before .before .before .pre) (c .before .before .if1 .taken) (c .before .if2 .taken) j a) (c .if-listed .result) (c .if-listed .ensures)
 
@@ -25,9 +22,6 @@ returns-3 c = λ k a t. no-kind-above (c .before .before .args .wanted) (c .befo
 returns-4 : tie.Need-returns-4
 returns-4 c = λ k a t. no-kind-above (c .before .before .before .before .args .wanted) (c .before .before .before .before .pre) (λ wide. absurd (differ (sym wide ∙ c .before .before .before .if1 .left))) (λ bare flat none. omega (arith, c .if4 .taken)) k a
 
-if-listed-requires-2 : tie.Need-if-listed-requires-2
-if-listed-requires-2 c κs = search needs
-
 returns-5 : tie.Need-returns-5
 returns-5 c = found-only (c .before .before .before .before .before .args .wanted) (Listed (c .before .before .before .before .before .args .list)) AltitudePoint (able-level (c .before .before .before .before .before .args .wanted) (c .before .before .before .before .before .pre) (c .before .before .before .before .if1 .left) (c .before .before .before .if3 .left) (omega (arith, c .before .if4 .left))) (λ j a t. only-level (c .before .before .before .before .before .args .wanted) (c .before .before .before .before .before .pre) (c .before .before .before .before .if1 .left) (c .before .before .before .if3 .left) (omega (arith, c .before .if4 .left)) j a) (c .if-listed2 .result) (c .if-listed2 .ensures)
 
@@ -35,10 +29,4 @@ pub elevated-kind-spec : {M : Type 1} → statement M
 elevated-kind-spec =
     tie.close
     (tie.spec
-    if-listed-requires
-    returns
-    returns-2
-    returns-3
-    returns-4
-    if-listed-requires-2
-    returns-5)
+    (λ c κs. search needs) returns returns-2 returns-3 returns-4 (λ c κs. search needs) returns-5)

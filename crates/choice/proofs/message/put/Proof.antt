@@ -8,14 +8,11 @@ use lib.Seq.{sets}
 use denote.Ref.{now}
 use Rattle.octets.specs.Codes.{position}
 use Rattle.composing.specs.Composing.{rest}
-use Rattle.requests.specs.Codes.{recordOf}
+use Rattle.requests.specs.Codes.{wantedRecord}
 use Rattle.choice.proofs.StoredLaws.{position-room, parts-stored}
 use borrow.Author.Needs.{needs}
 use Rattle.choice.proofs.message.put.Statement.{statement}
 use Rattle.choice.proofs.message.put.Tie as tie
-
-first-octet-requires : tie.Need-first-octet-requires
-first-octet-requires c κs = search needs
 
 slice-write-out : tie.Need-slice-write-out
 slice-write-out c = omega (arith, position-room (c .before .before .before .before .args .kind) (c .before .before .before .before .args .wanted) (c .before .before .before .before .pre .0) (c .before .before .before .before .pre .1 .0) _ (c .before .before .before .before .pre .1 .1))
@@ -34,17 +31,12 @@ returns c =
     let k = c .before .before .before .before .before .before .before .before .before .before .before .before .args .kind in
     let w = c .before .before .before .before .before .before .before .before .before .before .before .before .args .wanted in
     let o = now (c .before .before .before .before .before .before .before .before .before .before .before .before .args .out) in
-    c .before .before .put-rest .ensures ∙ ap (λ (l : List ℕ). sets l 7 (rest k (recordOf k w))) (c .before .before .before .before .before .before .put-position .ensures)
-    ∙ ap (λ (v : ℕ). sets o 0 (v ∷ (position (w .latitude) (w .longitude) ++ rest k (recordOf k w)))) (c .before .before .before .before .before .before .before .before .first-octet .ensures)
+    c .before .before .put-rest .ensures ∙ ap (λ (l : List ℕ). sets l 7 (rest k (wantedRecord k w))) (c .before .before .before .before .before .before .put-position .ensures)
+    ∙ ap (λ (v : ℕ). sets o 0 (v ∷ (position (w .latitude) (w .longitude) ++ rest k (wantedRecord k w)))) (c .before .before .before .before .before .before .before .before .first-octet .ensures)
     ∙ parts-stored k w (c .before .before .before .before .before .before .before .before .before .before .before .before .pre .0) (c .before .before .before .before .before .before .before .before .before .before .before .before .pre .1 .0) o (c .before .before .before .before .before .before .before .before .before .before .before .before .pre .1 .1)
 
 pub put-spec : {M : Type 1} → statement M
 put-spec =
     tie.close
     (tie.spec
-    first-octet-requires
-    slice-write-out
-    put-position-requires
-    put-rest-requires
-    same-length
-    returns)
+    (λ c κs. search needs) slice-write-out put-position-requires put-rest-requires same-length returns)

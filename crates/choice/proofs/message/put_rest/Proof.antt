@@ -16,32 +16,14 @@ use Rattle.choice.proofs.message.put_rest.Tie as tie
 enum-told : tie.Need-enum-told
 enum-told c = search needs
 
-enum-told-2 : tie.Need-enum-told-2
-enum-told-2 c = search needs
-
-enum-told-3 : tie.Need-enum-told-3
-enum-told-3 c = search needs
-
 slice-write-out : tie.Need-slice-write-out
 slice-write-out c = omega (arith, rw (c .enum-told3 .given .1) at (c .before .before .before .before .pre .1 .1))
-
-enum-told-4 : tie.Need-enum-told-4
-enum-told-4 c = search needs
 
 put-four-requires : tie.Need-put-four-requires
 put-four-requires c κs = omega (arith, rw (c .before .enum-told4 .given .1) at (c .before .before .before .before .before .pre .1 .1))
 
-enum-told-5 : tie.Need-enum-told-5
-enum-told-5 c = search needs
-
-enum-told-6 : tie.Need-enum-told-6
-enum-told-6 c = search needs
-
 put-altitude-requires : tie.Need-put-altitude-requires
 put-altitude-requires c κs = (omega (arith, rw (c .before .enum-told6 .given .1) at (c .before .before .before .before .before .pre .1 .1)), c .before .before .before .before .before .pre .1 .0 .altitudes)
-
-enum-told-7 : tie.Need-enum-told-7
-enum-told-7 c = search needs
 
 put-altitude-requires-2 : tie.Need-put-altitude-requires-2
 put-altitude-requires-2 c κs = (omega (arith, rw (c .before .enum-told7 .given .1) at (c .before .before .before .before .before .pre .1 .1)), c .before .before .before .before .before .pre .1 .0 .altitudes)
@@ -52,32 +34,20 @@ put-four-requires-2 c κs = omega (arith, rw (c .before .before .before .before 
 slice-write-out-2 : tie.Need-slice-write-out-2
 slice-write-out-2 c = omega (arith, rw (c .before .before .before .before .before .before .before .before .enum-told7 .given .1) at (c .before .before .before .before .before .before .before .before .before .before .before .before .pre .1 .1), c .before .before .before .before .before .before .put-altitude2 .kept .0, c .before .before .put-four2 .kept .0)
 
-enum-told-8 : tie.Need-enum-told-8
-enum-told-8 c = search needs
-
 returns : tie.Need-returns
 returns c = rw (c .enum-told .given .1)
 
 returns-2 : tie.Need-returns-2
 returns-2 c = rw (c .enum-told2 .given .1)
 
-same-length : tie.Need-same-length
-same-length c = search needs
-
 returns-3 : tie.Need-returns-3
 returns-3 c = rw (c .enum-told3 .given .1)
-
-same-length-2 : tie.Need-same-length-2
-same-length-2 c = search needs
 
 returns-4 : tie.Need-returns-4
 returns-4 c = rw (c .before .before .before .before .enum-told4 .given .1) (c .before .before .put-four .ensures)
 
 returns-5 : tie.Need-returns-5
 returns-5 c = rw (c .enum-told5 .given .1)
-
-same-length-3 : tie.Need-same-length-3
-same-length-3 c = search needs
 
 returns-6 : tie.Need-returns-6
 returns-6 c =
@@ -105,29 +75,7 @@ pub put-rest-spec : {M : Type 1} → statement M
 put-rest-spec =
     tie.close
     (tie.spec
-    enum-told
-    enum-told-2
-    enum-told-3
-    slice-write-out
-    enum-told-4
-    put-four-requires
-    enum-told-5
-    enum-told-6
-    put-altitude-requires
-    enum-told-7
-    put-altitude-requires-2
-    put-four-requires-2
-    slice-write-out-2
-    enum-told-8
-    returns
-    returns-2
-    same-length
-    returns-3
-    same-length-2
-    returns-4
-    returns-5
-    same-length-3
-    returns-6
-    same-length-4
-    returns-7
-    returns-8)
+    enum-told (λ c. search needs) (λ c. search needs) slice-write-out (λ c. search needs) put-four-requires
+    (λ c. search needs) (λ c. search needs) put-altitude-requires (λ c. search needs) put-altitude-requires-2
+    put-four-requires-2 slice-write-out-2 (λ c. search needs) returns returns-2 (λ c. search needs) returns-3
+    (λ c. search needs) returns-4 returns-5 (λ c. search needs) returns-6 same-length-4 returns-7 returns-8)

@@ -11,17 +11,14 @@ use types.Run.{miss}
 use Rattle.layout.specs.declared.shape.Kind.{Kind}
 use Rattle.layout.specs.declared.shape.Kind.the-variants.{Polygon}
 use Rattle.layout.specs.Layout.{typeOf}
-use Rattle.code_cells.specs.Shapes.{kindIn, recordIn}
+use Rattle.code_arrays.specs.Shapes.{arrayKind, recordIn}
 use Rattle.composing.specs.Composing.{restOf}
 use Rattle.composing.proofs.StoreLaws.{start-within, start-room, polygon-room}
-use Rattle.composing.proofs.CellStores.{count-small, used-within, rest-fits, parts-stored, points-stored}
+use Rattle.composing.proofs.ElementStores.{count-small, used-within, rest-fits, parts-stored, points-stored}
 use Rattle.composing.proofs.message.put.Statement.{statement}
 use Rattle.composing.proofs.message.put.Tie as tie
 
-first-octet-requires : tie.Need-first-octet-requires
-first-octet-requires c κs = search needs
-
-first : (c : tie.After-first-octet) → c .first-octet .result ≡ 16 * typeOf (kindIn (now (c .before .before .before .args .codes)))
+first : (c : tie.After-first-octet) → c .first-octet .result ≡ 16 * typeOf (arrayKind (now (c .before .before .before .args .codes)))
 first c = c .first-octet .ensures ∙ ap (λ (k : Kind). 16 * typeOf k) (c .before .before .before .pre .1 .0)
 
 -- ---- a polygon
@@ -29,27 +26,21 @@ first c = c .first-octet .ensures ∙ ap (λ (k : Kind). 16 * typeOf k) (c .befo
 enum-told : tie.Need-enum-told
 enum-told c = search needs
 
-shared-slice-read-out : tie.Need-shared-slice-read-out
-shared-slice-read-out c = search needs
-
 cast-out : tie.Need-cast-out
 cast-out c = omega (arith, count-small (now (c .before .before .before .before .before .before .args .codes)) (c .before .before .before .before .before .before .pre .1 .1 .0))
 
 add-out : tie.Need-add-out
 add-out c = omega (arith, rw (c .before .enum-told .given .1) at (c .before .before .before .first-octet .ensures), count-small (now (c .before .before .before .before .before .before .args .codes)) (c .before .before .before .before .before .before .pre .1 .1 .0))
 
-slice-write-out : tie.Need-slice-write-out
-slice-write-out c = search needs
-
-polygon : (c : tie.After-enum-told) → kindIn (now (c .before .before .before .before .before .args .codes)) ≡ Polygon
+polygon : (c : tie.After-enum-told) → arrayKind (now (c .before .before .before .before .before .args .codes)) ≡ Polygon
 polygon c = sym (c .before .before .before .before .before .pre .1 .0) ∙ c .enum-told .given .1
 
 put-requires : tie.Need-put-requires
 put-requires c κs =
-    let cells = now (c .before .before .before .before .before .before .before .args .codes) in
+    let elements = now (c .before .before .before .before .before .before .before .args .codes) in
     let start = c .before .before .before .before .before .before .before .pre in
     let e = polygon (c .before .before) in
-    (search needs, (omega (arith, count-small cells (start .1 .1 .0)), (simp length-set (polygon-room (recordIn cells) _ (start .1 .1 .1) e), used-within cells (start .1 .1 .0) e)))
+    (search needs, (omega (arith, count-small elements (start .1 .1 .0)), (simp length-set (polygon-room (recordIn elements) _ (start .1 .1 .1) e), used-within elements (start .1 .1 .0) e)))
 
 same-length : tie.Need-same-length
 same-length c = c .before .before .put .kept .0 ∙ simp length-set
@@ -61,14 +52,8 @@ returns c =
 
 -- ---- any other kind
 
-outline-in-requires : tie.Need-outline-in-requires
-outline-in-requires c κs = search needs
-
-other : (c : tie.At-match-keys2) → kindIn (now (c .before .before .before .before .args .codes)) ≡ Polygon → ⊥
+other : (c : tie.At-match-keys2) → arrayKind (now (c .before .before .before .before .args .codes)) ≡ Polygon → ⊥
 other c e = miss (0 ∷ 1 ∷ 2 ∷ 3 ∷ 5 ∷ 6 ∷ 7 ∷ []) 4 tt (rw (c .before .before .before .before .pre .1 .0 ∙ e) at (c .match .keys2))
-
-slice-write-out-2 : tie.Need-slice-write-out-2
-slice-write-out-2 c = search needs
 
 put-position-requires : tie.Need-put-position-requires
 put-position-requires c κs =
@@ -94,18 +79,6 @@ pub put-spec : {M : Type 1} → statement M
 put-spec =
     tie.close
     (tie.spec
-    first-octet-requires
-    enum-told
-    shared-slice-read-out
-    cast-out
-    add-out
-    slice-write-out
-    put-requires
-    same-length
-    returns
-    outline-in-requires
-    slice-write-out-2
-    put-position-requires
-    put-rest-requires
-    same-length-2
-    returns-2)
+    (λ c κs. search needs) enum-told (λ c. search needs) cast-out add-out (λ c. search needs) put-requires
+    same-length returns (λ c κs. search needs) (λ c. search needs) put-position-requires put-rest-requires
+    same-length-2 returns-2)

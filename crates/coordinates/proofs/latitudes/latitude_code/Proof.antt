@@ -1,4 +1,4 @@
--- `coordinates::latitude_code` meets its contract: the latitude is taken apart, and its size is in the step. Assumes nothing.
+-- `coordinates::latitude_code` meets its contract: the latitude is taken apart, and its size is in the step.
 use mathlib.Core.Path.{_≡_, refl, ap}
 use native.Mathlib.Omega.{arith}
 use borrow.Author.Needs.{needs}
@@ -9,9 +9,6 @@ use Rattle.ground.proofs.SetLaws.{of-parts}
 use Rattle.coordinates.proofs.latitudes.latitude_code.Statement.{statement}
 use Rattle.coordinates.proofs.latitudes.latitude_code.Tie as tie
 
-taken-apart-requires : tie.Need-taken-apart-requires
-taken-apart-requires c κs = search needs
-
 parts : (c : tie.After-taken-apart) → c .taken-apart .result ≡ partsOf (c .before .before .args .latitude .0)
 parts c = held-parts {z = c .before .before .args .latitude .0} (search needs) (c .taken-apart .ensures)
 
@@ -21,14 +18,11 @@ returns c = (refl, omega (arith, ap (λ (p : Parts). p .size) (parts (c .before)
 returns-2 : tie.Need-returns-2
 returns-2 c = of-parts (parts (c .before .before)) (search needs)
 
-mul-t8 : tie.Need-mul-t8
-mul-t8 c = search needs
-
-cast-t10 : tie.Need-cast-t10
-cast-t10 c = search needs
-
 returns-3 : tie.Need-returns-3
 returns-3 c = of-parts (parts (c .before .before)) (search needs)
 
 pub latitude-code-spec : {M : Type 1} → statement M
-latitude-code-spec = tie.close (tie.spec taken-apart-requires returns returns-2 mul-t8 cast-t10 returns-3)
+latitude-code-spec =
+    tie.close
+    (tie.spec
+    (λ c κs. search needs) returns returns-2 (λ c. search needs) (λ c. search needs) returns-3)

@@ -1,4 +1,4 @@
--- `coordinates::reported_latitude` meets its contract: the least size of the step, joined with the sign, is the nearest of the set. Assumes nothing.
+-- `coordinates::reported_latitude` meets its contract: the least size of the step, joined with the sign, is the nearest of the set.
 use mathlib.Core.Path.{refl, _∙_, subst⁻¹}
 use Prim.Native.Nat.{_+_, _*_, _/_}
 use mir.Facts.{toZ-ofZ}
@@ -10,21 +10,6 @@ use Rattle.coordinates.proofs.LatitudeLaws.{least-size, one-first}
 use Rattle.coordinates.proofs.latitudes.reported_latitude.Statement.{statement}
 use Rattle.coordinates.proofs.latitudes.reported_latitude.Tie as tie
 
-returns : tie.Need-returns
-returns c = search needs
-
-cast-t6 : tie.Need-cast-t6
-cast-t6 c = search needs
-
-mul-t7 : tie.Need-mul-t7
-mul-t7 c = search needs
-
-add-t8 : tie.Need-add-t8
-add-t8 c = search needs
-
-joined-requires : tie.Need-joined-requires
-joined-requires c κs = search needs
-
 returns-2 : tie.Need-returns-2
 returns-2 c =
     let code = c .before .before .before .args .code in
@@ -33,4 +18,8 @@ returns-2 c =
     (nearest-signed (code .0) size (least-size (code .1) (search needs)) (one-first (code .1) size refl))
 
 pub reported-latitude-spec : {M : Type 1} → statement M
-reported-latitude-spec = tie.close (tie.spec returns cast-t6 mul-t7 add-t8 joined-requires returns-2)
+reported-latitude-spec =
+    tie.close
+    (tie.spec
+    (λ c. search needs) (λ c. search needs) (λ c. search needs) (λ c. search needs) (λ c κs. search needs)
+    returns-2)

@@ -1,4 +1,4 @@
--- `coordinates::longitude_code` meets its contract, by the law `coded`. Assumes nothing.
+-- `coordinates::longitude_code` meets its contract, by the law `coded`.
 use mathlib.Core.Path.{_≡_, refl, ap}
 use mathlib.Core.Logic.{⊎-elim}
 use Prim.Native.Nat.{_+_, _≤_}
@@ -14,9 +14,6 @@ use Rattle.coordinates.proofs.LongitudeLaws.{raised-west, raised-east, 
 use Rattle.coordinates.proofs.longitudes.longitude_code.Statement.{statement}
 use Rattle.coordinates.proofs.longitudes.longitude_code.Tie as tie
 
-taken-apart-requires : tie.Need-taken-apart-requires
-taken-apart-requires c κs = search needs
-
 parts : (c : tie.After-taken-apart) → c .taken-apart .result ≡ partsOf (c .before .before .args .longitude .0)
 parts c = held-parts {z = c .before .before .args .longitude .0} (search needs) (c .taken-apart .ensures)
 
@@ -25,9 +22,6 @@ size c = ap (λ (p : Parts). p .size) (parts c)
 
 returns : tie.Need-returns
 returns c = (refl, omega (arith, size (c .before)))
-
-add-turned : tie.Need-add-turned
-add-turned c = search needs
 
 -- x + 180 degrees
 turned : (c : tie.Joined2) → c .if2 .turned + down (c .before .before .before .before .args .longitude .0) ≡ up (c .before .before .before .before .args .longitude .0) + 180000000000
@@ -43,12 +37,6 @@ near c = omega (arith, size (c .before .before))
 mul-steps : tie.Need-mul-steps
 mul-steps c = omega (arith, turned (c .before), near (c .before), abs-parts (c .before .before .before .before .before .args .longitude .0))
 
-cast-code-of : tie.Need-cast-code-of
-cast-code-of c = search needs
-
-code-of-requires : tie.Need-code-of-requires
-code-of-requires c κs = search needs
-
 returns-2 : tie.Need-returns-2
 returns-2 c =
     let j = c .before .before in
@@ -56,4 +44,7 @@ returns-2 c =
 
 pub longitude-code-spec : {M : Type 1} → statement M
 longitude-code-spec =
-    tie.close (tie.spec taken-apart-requires returns add-turned mul-steps cast-code-of code-of-requires returns-2)
+    tie.close
+    (tie.spec
+    (λ c κs. search needs) returns (λ c. search needs) mul-steps (λ c. search needs) (λ c κs. search needs)
+    returns-2)

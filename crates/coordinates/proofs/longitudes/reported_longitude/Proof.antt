@@ -1,4 +1,4 @@
--- `coordinates::reported_longitude` meets its contract, by the law `reported`. Assumes nothing.
+-- `coordinates::reported_longitude` meets its contract, by the law `reported`.
 use mathlib.Core.Path.{_≡_, refl, ap}
 use mathlib.Core.Logic.{⊎-elim}
 use Prim.Native.Nat.{_+_}
@@ -21,9 +21,6 @@ fits c = search needs
 cast-t6 : tie.Need-cast-t6
 cast-t6 c = wide-fits (fits c)
 
-taken-apart-requires : tie.Need-taken-apart-requires
-taken-apart-requires c κs = search needs
-
 parts : (c : tie.After-taken-apart) → c .taken-apart .result ≡ partsOf (c .before .before .before .args .code .0)
 parts c = wide-parts (fits (c .before)) (c .taken-apart .ensures)
 
@@ -32,9 +29,6 @@ returns c =
     let N = c .before .before .before .before .args .code .0 in
     let size : c .before .taken-apart .result .size ≡ natAbs N = ap (λ (p : Parts). p .size) (parts (c .before)) in
     (refl, size-beyond N (omega arith))
-
-add-steps : tie.Need-add-steps
-add-steps c = search needs
 
 -- N + 2^23
 steps : (c : tie.Joined2) → c .if2 .steps + down (c .before .before .before .before .before .args .code .0) ≡ up (c .before .before .before .before .before .args .code .0) + 8388608
@@ -47,15 +41,6 @@ steps c =
 returns-2 : tie.Need-returns-2
 returns-2 c = (refl, bits-beyond (c .before .before .before .before .before .before .args .code .0) _ (steps (c .before)) (c .if3 .taken))
 
-mul-turned : tie.Need-mul-turned
-mul-turned c = search needs
-
-add-turned : tie.Need-add-turned
-add-turned c = search needs
-
-lowered-requires : tie.Need-lowered-requires
-lowered-requires c κs = search needs
-
 returns-3 : tie.Need-returns-3
 returns-3 c =
     let j = c .before .before .before in
@@ -66,4 +51,6 @@ returns-3 c =
 pub reported-longitude-spec : {M : Type 1} → statement M
 reported-longitude-spec =
     tie.close
-    (tie.spec cast-t6 taken-apart-requires returns add-steps returns-2 mul-turned add-turned lowered-requires returns-3)
+    (tie.spec
+    cast-t6 (λ c κs. search needs) returns (λ c. search needs) returns-2 (λ c. search needs)
+    (λ c. search needs) (λ c κs. search needs) returns-3)

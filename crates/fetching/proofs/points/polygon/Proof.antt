@@ -21,48 +21,9 @@ Inv-loop s n shape₀ i₀ shape i = (i ≤ n) × (shape ≡ pointed (blankShape
 abbrev μ-loop : tie.MeasureT-loop
 μ-loop s n shape₀ i₀ shape i = n - i
 
-blank-shape-requires : tie.Need-blank-shape-requires Inv-loop μ-loop
-blank-shape-requires c κs = search needs
-
 loop-holds : tie.Need-loop-holds Inv-loop μ-loop
 unfolding fromComplement
 loop-holds c = (omega arith, rw (c .blank-shape .ensures))
-
-mul-latitude-at : tie.Need-mul-latitude-at Inv-loop μ-loop
-mul-latitude-at c = search needs
-
-add-latitude-at : tie.Need-add-latitude-at Inv-loop μ-loop
-add-latitude-at c = search needs
-
-latitude-at-requires : tie.Need-latitude-at-requires Inv-loop μ-loop
-latitude-at-requires c κs = search needs
-
-mul-longitude-at : tie.Need-mul-longitude-at Inv-loop μ-loop
-mul-longitude-at c = search needs
-
-add-longitude-at : tie.Need-add-longitude-at Inv-loop μ-loop
-add-longitude-at c = search needs
-
-longitude-at-requires : tie.Need-longitude-at-requires Inv-loop μ-loop
-longitude-at-requires c κs = search needs
-
-mul-latitude : tie.Need-mul-latitude Inv-loop μ-loop
-mul-latitude c = search needs
-
-element-set-from-latitude : tie.Need-element-set-from-latitude Inv-loop μ-loop
-element-set-from-latitude c = search needs
-
-mul-longitude : tie.Need-mul-longitude Inv-loop μ-loop
-mul-longitude c = search needs
-
-element-set-from-longitude : tie.Need-element-set-from-longitude Inv-loop μ-loop
-element-set-from-longitude c = search needs
-
-add-i : tie.Need-add-i Inv-loop μ-loop
-add-i c = search needs
-
-loop-less : tie.Need-loop-less Inv-loop μ-loop
-loop-less c = search needs
 
 loop-again : tie.Need-loop-again Inv-loop μ-loop
 loop-again c =
@@ -84,21 +45,7 @@ pub polygon-spec : {M : Type 1} → statement M
 polygon-spec =
     tie.close
     (tie.spec
-    Inv-loop
-    μ-loop
-    blank-shape-requires
-    loop-holds
-    mul-latitude-at
-    add-latitude-at
-    latitude-at-requires
-    mul-longitude-at
-    add-longitude-at
-    longitude-at-requires
-    mul-latitude
-    element-set-from-latitude
-    mul-longitude
-    element-set-from-longitude
-    add-i
-    loop-less
-    loop-again
-    returns)
+    Inv-loop μ-loop (λ c κs. search needs) loop-holds (λ c. search needs) (λ c. search needs)
+    (λ c κs. search needs) (λ c. search needs) (λ c. search needs) (λ c κs. search needs) (λ c. search needs)
+    (λ c. search needs) (λ c. search needs) (λ c. search needs) (λ c. search needs) (λ c. search needs)
+    loop-again returns)

@@ -20,12 +20,6 @@ enum-told-4 c = c .match .keys4
 enum-told-5 : tie.Need-enum-told-5
 enum-told-5 c = c .match .keys5
 
-mul-result : tie.Need-mul-result
-mul-result c = search needs
-
-add-result : tie.Need-add-result
-add-result c = search needs
-
 enum-told-6 : tie.Need-enum-told-6
 enum-told-6 c = c .match .keys6
 
@@ -63,21 +57,6 @@ pub message-length-spec : {M : Type 1} → statement M
 message-length-spec =
     tie.close
     (tie.spec
-    enum-told
-    enum-told-2
-    enum-told-3
-    enum-told-4
-    enum-told-5
-    mul-result
-    add-result
-    enum-told-6
-    enum-told-7
-    enum-told-8
-    returns
-    returns-2
-    returns-3
-    returns-4
-    returns-5
-    returns-6
-    returns-7
+    enum-told enum-told-2 enum-told-3 enum-told-4 enum-told-5 (λ c. search needs) (λ c. search needs)
+    enum-told-6 enum-told-7 enum-told-8 returns returns-2 returns-3 returns-4 returns-5 returns-6 returns-7
     returns-8)

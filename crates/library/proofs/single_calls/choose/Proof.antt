@@ -1,30 +1,18 @@
--- The request that the cells say is chosen for. Assumes nothing.
+-- The request that the elements say is chosen for.
 use mathlib.Core.Path.{refl}
 use native.Mathlib.Omega.{arith}
-use Rattle.cells.specs.Answers.{too-short, long-enough}
+use Rattle.code_arrays.specs.Answers.{too-short, long-enough}
 use Rattle.library.proofs.CallLaws.{chosen-within}
 use Rattle.library.specs.Promises.{no-request, chosen}
 use borrow.Author.Needs.{needs}
 use Rattle.library.proofs.single_calls.choose.Statement.{statement}
 use Rattle.library.proofs.single_calls.choose.Tie as tie
 
-answer-requires : tie.Need-answer-requires
-answer-requires c κs = search needs
-
 returns : tie.Need-returns
 returns c = too-short (omega arith) (c .answer .ensures) refl
 
-request-in-requires : tie.Need-request-in-requires
-request-in-requires c κs = search needs
-
-enum-known-asked : tie.Need-enum-known-asked
-enum-known-asked c = search needs
-
 enum-told : tie.Need-enum-told
 enum-told c = search needs
-
-answer-requires-2 : tie.Need-answer-requires-2
-answer-requires-2 c κs = search needs
 
 returns-2 : tie.Need-returns-2
 returns-2 c =
@@ -33,14 +21,8 @@ returns-2 c =
     let answer2 = c .answer2 in
     long-enough (omega arith) (no-request (rw (enum-told .given .1) at (request-in .ensures)) (answer2 .ensures) refl)
 
-choose-requires : tie.Need-choose-requires
-choose-requires c κs = search needs
-
 answer-requires-3 : tie.Need-answer-requires-3
 answer-requires-3 c κs = omega (arith, chosen-within (c .before .before .choose .result) (c .before .before .choose .ensures))
-
-same-length : tie.Need-same-length
-same-length c = search needs
 
 returns-3 : tie.Need-returns-3
 returns-3 c =
@@ -54,14 +36,5 @@ pub choose-spec : {M : Type 1} → statement M
 choose-spec =
     tie.close
     (tie.spec
-    answer-requires
-    returns
-    request-in-requires
-    enum-known-asked
-    enum-told
-    answer-requires-2
-    returns-2
-    choose-requires
-    answer-requires-3
-    same-length
-    returns-3)
+    (λ c κs. search needs) returns (λ c κs. search needs) (λ c. search needs) enum-told (λ c κs. search needs)
+    returns-2 (λ c κs. search needs) answer-requires-3 (λ c. search needs) returns-3)

@@ -1,25 +1,13 @@
--- What the inner function hands back is put. Assumes nothing.
+-- What the inner function hands back is put.
 use mathlib.Core.Path.{refl}
 use native.Mathlib.Omega.{arith}
-use Rattle.cells.specs.Answers.{too-short, long-enough}
+use Rattle.code_arrays.specs.Answers.{too-short, long-enough}
 use borrow.Author.Needs.{needs}
 use Rattle.library.proofs.velocity_calls.code_velocity.Statement.{statement}
 use Rattle.library.proofs.velocity_calls.code_velocity.Tie as tie
 
-answer-requires : tie.Need-answer-requires
-answer-requires c κs = search needs
-
 returns : tie.Need-returns
 returns c = too-short (omega arith) (c .answer .ensures) refl
-
-coded-in-requires : tie.Need-coded-in-requires
-coded-in-requires c κs = search needs
-
-put-codes-requires : tie.Need-put-codes-requires
-put-codes-requires c κs = search needs
-
-same-length : tie.Need-same-length
-same-length c = search needs
 
 returns-2 : tie.Need-returns-2
 returns-2 c =
@@ -30,4 +18,5 @@ returns-2 c =
 pub code-velocity-spec : {M : Type 1} → statement M
 code-velocity-spec =
     tie.close
-    (tie.spec answer-requires returns coded-in-requires put-codes-requires same-length returns-2)
+    (tie.spec
+    (λ c κs. search needs) returns (λ c κs. search needs) (λ c κs. search needs) (λ c. search needs) returns-2)

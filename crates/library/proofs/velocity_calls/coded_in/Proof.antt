@@ -1,24 +1,9 @@
--- The quantities that the cells say are coded, or are 7 after what comes before it. Assumes nothing.
+-- The quantities that the elements say are coded, or are 7 after what comes before it.
 use Rattle.ground.proofs.AnswerLaws.{shown, refuted}
 use Rattle.library.proofs.CallLaws.{misfit-velocity-codes, arrived-velocity-codes}
 use borrow.Author.Needs.{needs}
 use Rattle.library.proofs.velocity_calls.coded_in.Statement.{statement}
 use Rattle.library.proofs.velocity_calls.coded_in.Tie as tie
-
-velocity-arrives-requires : tie.Need-velocity-arrives-requires
-velocity-arrives-requires c κs = search needs
-
-velocity-quantities-in-requires : tie.Need-velocity-quantities-in-requires
-velocity-quantities-in-requires c κs = search needs
-
-kind-outcome-requires : tie.Need-kind-outcome-requires
-kind-outcome-requires c κs = search needs
-
-else-out-of-range-requires : tie.Need-else-out-of-range-requires
-else-out-of-range-requires c κs = search needs
-
-blank-velocity-requires : tie.Need-blank-velocity-requires
-blank-velocity-requires c κs = search needs
 
 returns : tie.Need-returns
 returns c =
@@ -30,12 +15,6 @@ returns c =
     let else-out-of-range = c .before .else-out-of-range in
     let blank-velocity = c .blank-velocity in
     misfit-velocity-codes (given .given .now) _ (kind-outcome .result) (else-out-of-range .ensures) (blank-velocity .ensures) (rw (velocity-quantities-in .ensures) at (kind-outcome .ensures)) (refuted (velocity-arrives .result) (if1 .taken) (velocity-arrives .ensures))
-
-velocity-quantities-in-requires-2 : tie.Need-velocity-quantities-in-requires-2
-velocity-quantities-in-requires-2 c κs = search needs
-
-code-velocity-requires : tie.Need-code-velocity-requires
-code-velocity-requires c κs = search needs
 
 returns-2 : tie.Need-returns-2
 returns-2 c =
@@ -50,12 +29,5 @@ pub coded-in-spec : {M : Type 1} → statement M
 coded-in-spec =
     tie.close
     (tie.spec
-    velocity-arrives-requires
-    velocity-quantities-in-requires
-    kind-outcome-requires
-    else-out-of-range-requires
-    blank-velocity-requires
-    returns
-    velocity-quantities-in-requires-2
-    code-velocity-requires
-    returns-2)
+    (λ c κs. search needs) (λ c κs. search needs) (λ c κs. search needs) (λ c κs. search needs)
+    (λ c κs. search needs) returns (λ c κs. search needs) (λ c κs. search needs) returns-2)

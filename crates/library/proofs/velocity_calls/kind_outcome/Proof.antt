@@ -1,4 +1,4 @@
--- Every kind but none is listed. Assumes nothing.
+-- Every kind but none is listed.
 use mathlib.Core.Path.{refl, subst⁻¹}
 use native.Mathlib.Omega.{arith}
 use Rattle.ground.specs.Answers.{unmet, met}
@@ -10,18 +10,6 @@ use Rattle.library.proofs.velocity_calls.kind_outcome.Tie as tie
 
 enum-told : tie.Need-enum-told
 enum-told c = search needs
-
-enum-told-2 : tie.Need-enum-told-2
-enum-told-2 c = search needs
-
-enum-told-3 : tie.Need-enum-told-3
-enum-told-3 c = search needs
-
-enum-told-4 : tie.Need-enum-told-4
-enum-told-4 c = search needs
-
-enum-told-5 : tie.Need-enum-told-5
-enum-told-5 c = search needs
 
 returns : tie.Need-returns
 returns c = subst⁻¹ (λ (k : VelocityKind). KindAnswer k 2) (c .enum-told .given .1) (unmet (λ h. omega arith) refl)
@@ -42,13 +30,5 @@ pub kind-outcome-spec : {M : Type 1} → statement M
 kind-outcome-spec =
     tie.close
     (tie.spec
-    enum-told
-    enum-told-2
-    enum-told-3
-    enum-told-4
-    enum-told-5
-    returns
-    returns-2
-    returns-3
-    returns-4
-    returns-5)
+    enum-told (λ c. search needs) (λ c. search needs) (λ c. search needs) (λ c. search needs) returns
+    returns-2 returns-3 returns-4 returns-5)

@@ -1,25 +1,10 @@
--- The record made of the cells is reported, or refused as the cells' numbers are. Assumes nothing.
+-- The record made of the elements is reported, or refused as the elements' numbers are.
 use Rattle.ground.proofs.AnswerLaws.{shown, refuted}
-use Rattle.alike.proofs.VelocityLaws.{held-velocity-misfit}
+use Rattle.library.proofs.VelocityLaws.{held-velocity-misfit}
 use Rattle.library.proofs.CallLaws.{misfit-velocity-reports, held-velocity-reports}
 use borrow.Author.Needs.{needs}
 use Rattle.library.proofs.velocity_calls.reported_in.Statement.{statement}
 use Rattle.library.proofs.velocity_calls.reported_in.Tie as tie
-
-velocity-is-whole-requires : tie.Need-velocity-is-whole-requires
-velocity-is-whole-requires c κs = search needs
-
-velocity-in-requires : tie.Need-velocity-in-requires
-velocity-in-requires c κs = search needs
-
-velocity-outcome-requires : tie.Need-velocity-outcome-requires
-velocity-outcome-requires c κs = search needs
-
-else-out-of-range-requires : tie.Need-else-out-of-range-requires
-else-out-of-range-requires c κs = search needs
-
-no-velocity-requires : tie.Need-no-velocity-requires
-no-velocity-requires c κs = search needs
 
 returns : tie.Need-returns
 returns c =
@@ -31,12 +16,6 @@ returns c =
     let else-out-of-range = c .before .else-out-of-range in
     let no-velocity = c .no-velocity in
     misfit-velocity-reports (given .codes .now) _ (velocity-outcome .result) (else-out-of-range .ensures) (no-velocity .ensures) (held-velocity-misfit (given .codes .now) (refuted (velocity-is-whole .result) (if1 .taken) (velocity-is-whole .ensures)) (velocity-outcome .result) _ (rw (velocity-in .ensures) at (velocity-outcome .ensures)))
-
-velocity-in-requires-2 : tie.Need-velocity-in-requires-2
-velocity-in-requires-2 c κs = search needs
-
-report-velocity-requires : tie.Need-report-velocity-requires
-report-velocity-requires c κs = search needs
 
 returns-2 : tie.Need-returns-2
 returns-2 c =
@@ -51,12 +30,5 @@ pub reported-in-spec : {M : Type 1} → statement M
 reported-in-spec =
     tie.close
     (tie.spec
-    velocity-is-whole-requires
-    velocity-in-requires
-    velocity-outcome-requires
-    else-out-of-range-requires
-    no-velocity-requires
-    returns
-    velocity-in-requires-2
-    report-velocity-requires
-    returns-2)
+    (λ c κs. search needs) (λ c κs. search needs) (λ c κs. search needs) (λ c κs. search needs)
+    (λ c κs. search needs) returns (λ c κs. search needs) (λ c κs. search needs) returns-2)

@@ -1,4 +1,4 @@
--- Whether each cell passed is zero. Assumes nothing.
+-- Whether each element passed is zero.
 use Prim.Native.Nat.{ℕ, _-_, _≤_, _<_}
 use mathlib.Core.Path.{_≡_}
 use mathlib.Core.Logic.{⊎-elim}
@@ -7,30 +7,18 @@ use borrow.Author.Count.{below-more}
 use borrow.Author.Needs.{needs}
 use Rattle.ground.specs.Answers.{Decides}
 use Rattle.ground.proofs.AnswerLaws.{decided}
-use Rattle.cells.specs.Codes.{cellAt}
+use Rattle.code_arrays.specs.CodeNumbers.{elementAt}
 use Rattle.limits.proofs.points.none_from.Statement.{statement}
 use Rattle.limits.proofs.points.none_from.Tie as tie
 
 abbrev Inv-loop : tie.InvT-loop
-Inv-loop codes first all₀ at₀ all at = (first ≤ at) × (at ≤ 61) × Decides all ((k : ℕ) → k < at → first ≤ k → cellAt codes k ≡ 0)
+Inv-loop codes first all₀ at₀ all at = (first ≤ at) × (at ≤ 61) × Decides all ((k : ℕ) → k < at → first ≤ k → elementAt codes k ≡ 0)
 
 abbrev μ-loop : tie.MeasureT-loop
 μ-loop codes first all₀ at₀ all at = 61 - at
 
 loop-holds : tie.Need-loop-holds Inv-loop μ-loop
 loop-holds c = (search needs, search needs, λ k h l. absurd (omega arith))
-
-mul-if1 : tie.Need-mul-if1 Inv-loop μ-loop
-mul-if1 c = search needs
-
-shared-slice-read-if1 : tie.Need-shared-slice-read-if1 Inv-loop μ-loop
-shared-slice-read-if1 c = search needs
-
-add-at : tie.Need-add-at Inv-loop μ-loop
-add-at c = search needs
-
-loop-less : tie.Need-loop-less Inv-loop μ-loop
-loop-less c = search needs
 
 loop-again : tie.Need-loop-again Inv-loop μ-loop
 loop-again c = (
@@ -48,12 +36,5 @@ pub none-from-spec : {M : Type 1} → statement M
 none-from-spec =
     tie.close
     (tie.spec
-    Inv-loop
-    μ-loop
-    loop-holds
-    mul-if1
-    shared-slice-read-if1
-    add-at
-    loop-less
-    loop-again
-    returns)
+    Inv-loop μ-loop loop-holds (λ c. search needs) (λ c. search needs) (λ c. search needs) (λ c. search needs)
+    loop-again returns)

@@ -1,20 +1,14 @@
--- `radii::tables::entry` meets its contract: a place is its row's eight times the row, and the place in it. Assumes nothing.
+-- `radii::tables::entry` meets its contract: a place is its row's eight times the row, and the place in it.
 use mathlib.Core.Path.{ap, _∙_}
 use mathlib.Core.List.{List}
 use Prim.Native.Nat.{ℕ, _*_, _/_, _%_}
 use native.Mathlib.Omega.{arith}
 use lib.ListN.{getD}
-use Rattle.rows.proofs.RowLaws.{in-row}
+use Rattle.radii.proofs.RowLaws.{in-row}
 use Rattle.radii.specs.Tables.{entriesIn}
 use borrow.Author.Needs.{needs}
 use Rattle.radii.proofs.tables.entry.Statement.{statement}
 use Rattle.radii.proofs.tables.entry.Tie as tie
-
-row-of-requires : tie.Need-row-of-requires
-row-of-requires c κs = search needs
-
-in-row-requires : tie.Need-in-row-requires
-in-row-requires c κs = search needs
 
 returns : tie.Need-returns
 returns c =
@@ -26,4 +20,4 @@ returns c =
     ap (λ (k : ℕ). getD (entriesIn table) k 0) (omega arith)
 
 pub entry-spec : {M : Type 1} → statement M
-entry-spec = tie.close (tie.spec row-of-requires in-row-requires returns)
+entry-spec = tie.close (tie.spec (λ c κs. search needs) (λ c κs. search needs) returns)

@@ -1,24 +1,15 @@
--- `radii::tables::halved` meets its contract: the last entry of the row in the middle says which half has the first place. Assumes nothing.
+-- `radii::tables::halved` meets its contract: the last entry of the row in the middle says which half has the first place.
 use mathlib.Core.Path.{_≡_, subst}
 use Prim.Native.Nat.{ℕ, _+_, _*_, _-_, _≤_}
 use native.Mathlib.Nat.{lt-of-le-of-lt}
 use native.Mathlib.Omega.{arith}
 use lib.ListN.{getD}
-use Rattle.rows.proofs.RowLaws.{last-of}
+use Rattle.radii.proofs.RowLaws.{last-of}
 use Rattle.radii.specs.Tables.{entriesIn}
 use Rattle.radii.proofs.TableLaws.{rises}
 use borrow.Author.Needs.{needs}
 use Rattle.radii.proofs.tables.halved.Statement.{statement}
 use Rattle.radii.proofs.tables.halved.Tie as tie
-
-add-next : tie.Need-add-next
-add-next c = search needs
-
-sub-row-of : tie.Need-sub-row-of
-sub-row-of c = search needs
-
-row-of-requires : tie.Need-row-of-requires
-row-of-requires c κs = search needs
 
 returns : tie.Need-returns
 returns c =
@@ -43,4 +34,7 @@ returns-2 c =
     }
 
 pub halved-spec : {M : Type 1} → statement M
-halved-spec = tie.close (tie.spec add-next sub-row-of row-of-requires returns returns-2)
+halved-spec =
+    tie.close
+    (tie.spec
+    (λ c. search needs) (λ c. search needs) (λ c κs. search needs) returns returns-2)

@@ -11,32 +11,11 @@ use Rattle.records.proofs.kinds.form.Tie as tie
 enum-told : tie.Need-enum-told
 enum-told c = search needs
 
-enum-told-2 : tie.Need-enum-told-2
-enum-told-2 c = search needs
-
-enum-told-3 : tie.Need-enum-told-3
-enum-told-3 c = search needs
-
-enum-told-4 : tie.Need-enum-told-4
-enum-told-4 c = search needs
-
-enum-told-5 : tie.Need-enum-told-5
-enum-told-5 c = search needs
-
 returns : tie.Need-returns
 returns c = polygon-form _ _ 4 (c .before .enum-told5 .given .1) (unmet (λ h. absurd (omega (arith, h .0))) refl)
 
 returns-2 : tie.Need-returns-2
 returns-2 c = polygon-form _ _ 4 (c .before .before .enum-told5 .given .1) (unmet (λ h. absurd (omega (arith, h .1))) refl)
-
-enum-told-6 : tie.Need-enum-told-6
-enum-told-6 c = search needs
-
-enum-told-7 : tie.Need-enum-told-7
-enum-told-7 c = search needs
-
-enum-told-8 : tie.Need-enum-told-8
-enum-told-8 c = search needs
 
 returns-3 : tie.Need-returns-3
 returns-3 c = nothing-form _ _ (c .enum-told .given .1)
@@ -66,21 +45,6 @@ pub form-spec : {M : Type 1} → statement M
 form-spec =
     tie.close
     (tie.spec
-    enum-told
-    enum-told-2
-    enum-told-3
-    enum-told-4
-    enum-told-5
-    returns
-    returns-2
-    enum-told-6
-    enum-told-7
-    enum-told-8
-    returns-3
-    returns-4
-    returns-5
-    returns-6
-    returns-7
-    returns-8
-    returns-9
-    returns-10)
+    enum-told (λ c. search needs) (λ c. search needs) (λ c. search needs) (λ c. search needs) returns
+    returns-2 (λ c. search needs) (λ c. search needs) (λ c. search needs) returns-3 returns-4 returns-5
+    returns-6 returns-7 returns-8 returns-9 returns-10)

@@ -5,23 +5,11 @@ use Rattle.records.proofs.ShapeLaws.{refused-with}
 use Rattle.records.proofs.shapes.code_shape.Statement.{statement}
 use Rattle.records.proofs.shapes.code_shape.Tie as tie
 
-form-requires : tie.Need-form-requires
-form-requires c κs = search needs
-
 enum-told : tie.Need-enum-told
 enum-told c = search needs
 
 coded-requires : tie.Need-coded-requires
 coded-requires c κs = formed (c .before .before .before .args .quantities) (rw (c .enum-told .given .1) at (c .before .before .form .ensures))
-
-enum-known-why : tie.Need-enum-known-why
-enum-known-why c = search needs
-
-refused-requires : tie.Need-refused-requires
-refused-requires c κs = search needs
-
-returns : tie.Need-returns
-returns c = search needs
 
 returns-2 : tie.Need-returns-2
 returns-2 c =
@@ -33,10 +21,5 @@ pub code-shape-spec : {M : Type 1} → statement M
 code-shape-spec =
     tie.close
     (tie.spec
-    form-requires
-    enum-told
-    coded-requires
-    enum-known-why
-    refused-requires
-    returns
-    returns-2)
+    (λ c κs. search needs) enum-told coded-requires (λ c. search needs) (λ c κs. search needs)
+    (λ c. search needs) returns-2)

@@ -3,44 +3,23 @@ use native.Mathlib.Omega.{arith}
 use borrow.Author.Tests.{not-true, not-false}
 use borrow.Author.Needs.{needs}
 use Rattle.ground.proofs.AnswerLaws.{shown, refuted}
-use Rattle.groups.proofs.PointLaws.{codes-kept}
+use Rattle.outline_codes.proofs.PointLaws.{codes-kept}
 use Rattle.records.proofs.ShapeLaws.{in-range, rest-zero, ranges-kept, points-kept, shape-done, out-of-range, too-large}
 use Rattle.records.proofs.shapes.coded.Statement.{statement}
 use Rattle.records.proofs.shapes.coded.Tie as tie
-
-used-by-requires : tie.Need-used-by-requires
-used-by-requires c κs = search needs
-
-is-zero-requires : tie.Need-is-zero-requires
-is-zero-requires c κs = search needs
-
-refused-requires : tie.Need-refused-requires
-refused-requires c κs = search needs
 
 returns : tie.Need-returns
 returns c =
     let q = c .before .before .before .before .args .quantities in
     out-of-range q (c .refused .result) (c .before .before .before .before .pre) (c .refused .ensures) (λ r. refuted (c .before .before .is-zero .result) (c .before .if1 .taken) (rw (c .before .before .before .used-by .ensures) at (c .before .before .is-zero .ensures)) (rest-zero q r))
 
-refused-requires-2 : tie.Need-refused-requires-2
-refused-requires-2 c κs = search needs
-
 returns-2 : tie.Need-returns-2
 returns-2 c =
     let q = c .before .before .before .before .before .before .args .quantities in
     out-of-range q (c .refused2 .result) (c .before .before .before .before .before .before .pre) (c .refused2 .ensures) (λ r. absurd (omega (arith, r .axes, c .before .if2 .taken)))
 
-code-ranges-requires : tie.Need-code-ranges-requires
-code-ranges-requires c κs = search needs
-
-enum-known-ranged : tie.Need-enum-known-ranged
-enum-known-ranged c = search needs
-
 enum-told : tie.Need-enum-told
 enum-told c = search needs
-
-refused-requires-3 : tie.Need-refused-requires-3
-refused-requires-3 c κs = search needs
 
 returns-3 : tie.Need-returns-3
 returns-3 c =
@@ -48,28 +27,10 @@ returns-3 c =
     let out = rw (c .before .enum-told .given .1, c .before .before .before .before .before .before .before .before .used-by .ensures) at (c .before .before .before .code-ranges .ensures) in
     out-of-range q (c .refused3 .result) (c .before .before .before .before .before .before .before .before .before .pre) (c .refused3 .ensures) (λ r. out (ranges-kept q r))
 
-code-points-requires : tie.Need-code-points-requires
-code-points-requires c κs = search needs
-
-refused-requires-4 : tie.Need-refused-requires-4
-refused-requires-4 c κs = search needs
-
 returns-4 : tie.Need-returns-4
 returns-4 c =
     let q = c .before .before .before .before .before .before .before .before .before .before .before .before .before .before .before .args .quantities in
     out-of-range q (c .refused4 .result) (c .before .before .before .before .before .before .before .before .before .before .before .before .before .before .before .pre) (c .refused4 .ensures) (λ r. c .before .before .before .code-points .ensures .out (not-true _ (c .before .if3 .taken)) (points-kept q r))
-
-code-sizes-requires : tie.Need-code-sizes-requires
-code-sizes-requires c κs = search needs
-
-enum-known-sizes : tie.Need-enum-known-sizes
-enum-known-sizes c = search needs
-
-enum-told-2 : tie.Need-enum-told-2
-enum-told-2 c = search needs
-
-refused-requires-5 : tie.Need-refused-requires-5
-refused-requires-5 c κs = search needs
 
 returns-5 : tie.Need-returns-5
 returns-5 c =
@@ -79,9 +40,6 @@ returns-5 c =
     let points = c .before .before .before .before .before .before .code-points .ensures .coded (not-false _ (c .before .before .before .before .if3 .left)) in
     let r = in-range q z (omega (arith, c .before .before .before .before .before .before .before .before .before .before .before .before .before .if2 .left)) (c .before .before .before .before .before .before .before .before .before .before .ranged .given .0 .0) ranged (λ i. codes-kept (points .each i)) in
     too-large q (c .refused5 .result) (c .before .before .before .before .before .before .before .before .before .before .before .before .before .before .before .before .before .before .pre) r (c .refused5 .ensures) (rw (c .before .enum-told2 .given .1) at (c .before .before .before .code-sizes .ensures))
-
-outlined-requires : tie.Need-outlined-requires
-outlined-requires c κs = search needs
 
 returns-6 : tie.Need-returns-6
 returns-6 c =
@@ -97,24 +55,7 @@ pub coded-spec : {M : Type 1} → statement M
 coded-spec =
     tie.close
     (tie.spec
-    used-by-requires
-    is-zero-requires
-    refused-requires
-    returns
-    refused-requires-2
-    returns-2
-    code-ranges-requires
-    enum-known-ranged
-    enum-told
-    refused-requires-3
-    returns-3
-    code-points-requires
-    refused-requires-4
-    returns-4
-    code-sizes-requires
-    enum-known-sizes
-    enum-told-2
-    refused-requires-5
-    returns-5
-    outlined-requires
-    returns-6)
+    (λ c κs. search needs) (λ c κs. search needs) (λ c κs. search needs) returns (λ c κs. search needs)
+    returns-2 (λ c κs. search needs) (λ c. search needs) enum-told (λ c κs. search needs) returns-3
+    (λ c κs. search needs) (λ c κs. search needs) returns-4 (λ c κs. search needs) (λ c. search needs)
+    (λ c. search needs) (λ c κs. search needs) returns-5 (λ c κs. search needs) returns-6)

@@ -2,7 +2,7 @@
 use Prim.Native.Nat.{suc}
 use Rattle.quantities.specs.Places.{latitude, longitude}
 use Rattle.quantities.proofs.HeldLaws.{shape-held, count-held}
-use Rattle.spoken_shapes.proofs.OutlineLaws.{outline-held, all-reported}
+use Rattle.field_reports.proofs.OutlineLaws.{outline-held, all-reported}
 use Rattle.reports.proofs.shape.quantities_of.Statement.{statement}
 use Rattle.reports.proofs.shape.quantities_of.Tie as tie
 

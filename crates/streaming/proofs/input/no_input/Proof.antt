@@ -1,5 +1,4 @@
 -- Nothing is read, and there is no line.
-use mathlib.Core.Path.{refl}
 use borrow.Author.Needs.{needs}
 use Rattle.streaming.proofs.input.no_input.Statement.{statement}
 use Rattle.streaming.proofs.input.no_input.Tie as tie

@@ -1,5 +1,4 @@
 -- Nothing is put, answered or written.
-use mathlib.Core.Path.{refl}
 use borrow.Author.Needs.{needs}
 use Rattle.streaming.proofs.output.no_output.Statement.{statement}
 use Rattle.streaming.proofs.output.no_output.Tie as tie

@@ -1,7 +1,7 @@
 -- What is left is written with the last line behind it; after a write that failed nothing is.
 use mathlib.Core.Path.{refl, sym, _∙_, subst}
 use lib.Dec.{T}
-use Rattle.printing.specs.Printing.{endText}
+use Rattle.text.specs.AnswerLines.{endText}
 use Rattle.streaming.proofs.OutputLaws.{put-kept, put-closed, put-end}
 use borrow.Author.Needs.{needs}
 use Rattle.streaming.proofs.output.write_end.Statement.{statement}

@@ -4,21 +4,6 @@ use borrow.Author.Needs.{needs}
 use Rattle.streaming.proofs.source.read_more.Statement.{statement}
 use Rattle.streaming.proofs.source.read_more.Tie as tie
 
-shift-requires : tie.Need-shift-requires
-shift-requires c κs = search needs
-
-sub-kept : tie.Need-sub-kept
-sub-kept c = search needs
-
-read-behind-requires : tie.Need-read-behind-requires
-read-behind-requires c κs = search needs
-
-add-t12 : tie.Need-add-t12
-add-t12 c = search needs
-
-same-length : tie.Need-same-length
-same-length c = search needs
-
 returns : tie.Need-returns
 returns c =
     more-read (c .before .before .before .before .before .before .before .before .before .args .buf .now) (c .before .before .before .before .before .before .shift .last .0) (c .before .before .read-behind .last .0) (c .before .before .before .before .before .before .before .before .before .args .at) (c .before .before .before .before .before .before .before .before .before .args .source) (c .before .before .read-behind .result)
@@ -26,4 +11,7 @@ returns c =
 
 pub read-more-spec : {M : Type 1} → statement M
 read-more-spec =
-    tie.close (tie.spec shift-requires sub-kept read-behind-requires add-t12 same-length returns)
+    tie.close
+    (tie.spec
+    (λ c κs. search needs) (λ c. search needs) (λ c κs. search needs) (λ c. search needs) (λ c. search needs)
+    returns)

@@ -9,7 +9,7 @@ use Rattle.layout.specs.declared.velocity.Velocity.{Velocity}
 use Rattle.layout.specs.Layout.{velocityRows}
 use Rattle.layout.specs.Demands.{InFields}
 use Rattle.layout.specs.Velocities.{velocityValueOf}
-use Rattle.carrying.specs.Carrying.{VelocityInFields}
+use Rattle.velocity_octets.specs.Carrying.{VelocityInFields}
 use Rattle.velocities.proofs.UnusedLaws.{Typed, unlisted, horizontal-in, vertical-in, uncertain-in, all-in, horizontal-zero, vertical-zero, uncertain-zero}
 use Rattle.velocities.proofs.answers.in_fields.Statement.{statement}
 use Rattle.velocities.proofs.answers.in_fields.Tie as tie
@@ -23,27 +23,6 @@ of-kind x b k e d = subst (λ (j : VelocityKind). Decides b (InFields (velocityR
 
 enum-told : tie.Need-enum-told
 enum-told c = search needs
-
-enum-told-2 : tie.Need-enum-told-2
-enum-told-2 c = search needs
-
-are-zero-requires : tie.Need-are-zero-requires
-are-zero-requires c κs = search needs
-
-enum-told-3 : tie.Need-enum-told-3
-enum-told-3 c = search needs
-
-are-zero-requires-2 : tie.Need-are-zero-requires-2
-are-zero-requires-2 c κs = search needs
-
-enum-told-4 : tie.Need-enum-told-4
-enum-told-4 c = search needs
-
-are-zero-requires-3 : tie.Need-are-zero-requires-3
-are-zero-requires-3 c κs = search needs
-
-enum-told-5 : tie.Need-enum-told-5
-enum-told-5 c = search needs
 
 returns : tie.Need-returns
 returns c = λ v. unlisted _ (c .enum-told .given .1) (c .before .before .pre .0)
@@ -64,16 +43,6 @@ pub in-fields-spec : {M : Type 1} → statement M
 in-fields-spec =
     tie.close
     (tie.spec
-    enum-told
-    enum-told-2
-    are-zero-requires
-    enum-told-3
-    are-zero-requires-2
-    enum-told-4
-    are-zero-requires-3
-    enum-told-5
-    returns
-    returns-2
-    returns-3
-    returns-4
+    enum-told (λ c. search needs) (λ c κs. search needs) (λ c. search needs) (λ c κs. search needs)
+    (λ c. search needs) (λ c κs. search needs) (λ c. search needs) returns returns-2 returns-3 returns-4
     returns-5)

@@ -6,9 +6,6 @@ use borrow.Author.Needs.{needs}
 use Rattle.velocities.proofs.answers.of_message.Statement.{statement}
 use Rattle.velocities.proofs.answers.of_message.Tie as tie
 
-length-of-requires : tie.Need-length-of-requires
-length-of-requires c κs = search needs
-
 returns : tie.Need-returns
 returns c = unmet (λ l. absurd (omega (arith, l, c .if1 .taken, c .before .length-of .ensures))) refl
 
@@ -19,4 +16,4 @@ returns-3 : tie.Need-returns-3
 returns-3 c = met (omega (arith, c .before .if1 .left, c .before .before .length-of .ensures)) (met (omega (arith, c .if2 .left, c .before .before .length-of .ensures)) refl)
 
 pub of-message-spec : {M : Type 1} → statement M
-of-message-spec = tie.close (tie.spec length-of-requires returns returns-2 returns-3)
+of-message-spec = tie.close (tie.spec (λ c κs. search needs) returns returns-2 returns-3)

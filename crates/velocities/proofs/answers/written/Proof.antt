@@ -5,17 +5,11 @@ use Rattle.velocities.proofs.answers.written.Tie as tie
 enum-told : tie.Need-enum-told
 enum-told c = search needs
 
-length-of-requires : tie.Need-length-of-requires
-length-of-requires c κs = search needs
-
-enum-told-2 : tie.Need-enum-told-2
-enum-told-2 c = search needs
-
 returns : tie.Need-returns
 returns c = rw (c .before .enum-told .given .1) (c .length-of .ensures)
 
-returns-2 : tie.Need-returns-2
-returns-2 c = search needs
-
 pub written-spec : {M : Type 1} → statement M
-written-spec = tie.close (tie.spec enum-told length-of-requires enum-told-2 returns returns-2)
+written-spec =
+    tie.close
+    (tie.spec
+    enum-told (λ c κs. search needs) (λ c. search needs) returns (λ c. search needs))

@@ -1,0 +1,3 @@
+mod IntoLaws
+mod OutlineLaws
+mod PointLaws

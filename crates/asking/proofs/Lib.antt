@@ -1,4 +1,0 @@
-pub mod PartedLaws
-pub mod AmountLaws
-pub mod AskingLaws
-pub mod EntryLaws

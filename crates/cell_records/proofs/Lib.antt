@@ -1,3 +1,0 @@
-mod PointLaws
-mod OutlineLaws
-mod IntoLaws

@@ -1,4 +1,0 @@
-pub mod ClearLaws
-pub mod CopyLaws
-pub mod NumberLaws
-pub mod PutLaws

@@ -1,0 +1,119 @@
+-- Of one field one thing is told: a number is of one field or none, a element says one quantity or none, and a code's elements one code
+-- or none.
+use Prim.Native.Nat.{ℕ, _≤_}
+use mathlib.Core.Path.{_≡_, sym, ap, subst, _∙_}
+use mathlib.Core.List.{List}
+use native.Mathlib.Omega.{arith}
+use lib.IntN.{ℤ}
+use lib.ListN.{length}
+use Rattle.ground.specs.declared.quantity.UncertaintySpeed.{UncertaintySpeed}
+use Rattle.ground.specs.declared.quantity.UncertaintySpeed.the-variants as uncertain
+use Rattle.ground.specs.declared.quantity.Confidence.{Confidence}
+use Rattle.ground.specs.declared.quantity.Confidence.the-variants as confident
+use Rattle.ground.specs.declared.told.Told.{Told}
+use Rattle.fields.specs.Fields.{Field, latitude, longitude, uncertainty, altitudeUncertainty, altitude, innerRadius, offset, included, orientation, bearing, horizontalSpeed, verticalSpeed, uncertaintySpeed, confidence, CodeOf, QuantityOf}
+use Rattle.fields.specs.Places.{placeOf}
+use Rattle.fields.proofs.PlaceLaws.{place-one, past-places}
+use Rattle.one_field.specs.Coding as coding
+use Rattle.one_field.specs.Coding.{countOf}
+use Rattle.one_field.proofs.OneCode as coded
+use Rattle.one_field.specs.Reporting as reporting
+use Rattle.one_field.proofs.OneQuantity as reported
+use Rattle.library.specs.Fields.{IsNatural, IsSigned, IsUncertaintySpeed, IsConfidence, QuantityArrives, CodesElement, outside, CodesField, IsCode, SaysCode, ReportsElements, too-short, no-code, ReportsField}
+use Rattle.library.specs.Fields as single
+use Rattle.claims.proofs.OneRequest.{byNumber, confidenceIn}
+
+-- ---- the field of a number
+
+field-one : {n : ℕ} (f g : Field) → placeOf f ≡ n → placeOf g ≡ n → f ≡ g
+field-one f g d e = place-one f g (d ∙ sym e)
+
+-- ---- the quantity in a element
+
+natural-one : {z : ℤ} {n m : ℕ} → IsNatural z n → IsNatural z m → n ≡ m
+natural-one s t = cc
+
+signed-one : {z x y : ℤ} → IsSigned z x → IsSigned z y → x ≡ y
+signed-one s t = cc
+
+abbrev speedIn : ℤ → UncertaintySpeed
+speedIn = byNumber (λ n. uncertain.Speed (record { 0 = n })) uncertain.Missing
+
+speed-back : (z : ℤ) (x : UncertaintySpeed) → IsUncertaintySpeed z x → speedIn z ≡ x
+speed-back z (uncertain.Speed s) i = ap speedIn (i .number)
+speed-back z uncertain.Missing i = ap speedIn i
+
+confidence-back : (z : ℤ) (x : Confidence) → IsConfidence z x → confidenceIn z ≡ x
+confidence-back z (confident.PerCent p) i = ap confidenceIn (i .number)
+confidence-back z confident.Missing i = ap confidenceIn i
+
+quantity-one : (f : Field) (z : ℤ) (x y : QuantityOf f) → QuantityArrives f z x → QuantityArrives f z y → x ≡ y
+quantity-one latitude z x y s t = λ i. record { 0 = (sym s ∙ t) i }
+quantity-one longitude z x y s t = λ i. record { 0 = (sym s ∙ t) i }
+quantity-one uncertainty z x y s t = λ i. record { 0 = natural-one s t i }
+quantity-one altitudeUncertainty z x y s t = λ i. record { 0 = natural-one s t i }
+quantity-one altitude z x y s t = λ i. record { 0 = signed-one s t i }
+quantity-one innerRadius z x y s t = λ i. record { 0 = natural-one s t i }
+quantity-one offset z x y s t = λ i. record { 0 = natural-one s t i }
+quantity-one included z x y s t = λ i. record { 0 = natural-one s t i }
+quantity-one orientation z x y s t = λ i. record { 0 = natural-one s t i }
+quantity-one bearing z x y s t = λ i. record { 0 = natural-one s t i }
+quantity-one horizontalSpeed z x y s t = λ i. record { 0 = natural-one s t i }
+quantity-one verticalSpeed z x y s t = λ i. record { 0 = signed-one s t i }
+quantity-one uncertaintySpeed z x y s t = sym (speed-back z x s) ∙ speed-back z y t
+quantity-one confidence z x y s t = sym (confidence-back z x s) ∙ confidence-back z y t
+
+-- ---- the code in elements, which are enough
+
+code-one : {elements : List ℕ} {n m : ℕ} → IsCode elements n → IsCode elements m → n ≡ m
+code-one s t = s .number ∙ sym (t .number)
+
+saying : (f : Field) (elements : List ℕ) (c d : CodeOf f) → SaysCode f elements c → SaysCode f elements d → (c ≡ d) × (countOf f ≤ length elements)
+saying latitude elements c d s t = (λ i. record { 0 = (s .sign ∙ sym (t .sign)) i; 1 = (s .number ∙ sym (t .number)) i }, s .both)
+saying longitude elements c d s t = (λ i. record { 0 = (s .number ∙ sym (t .number)) i }, s .one)
+saying uncertainty elements c d s t = (λ i. record { 0 = code-one s t i }, s .one)
+saying altitudeUncertainty elements c d s t = (λ i. record { 0 = code-one s t i }, s .one)
+saying altitude elements c d s t = (λ i. record { 0 = (s .sign ∙ sym (t .sign)) i; 1 = (s .number ∙ sym (t .number)) i }, s .both)
+saying innerRadius elements c d s t = (λ i. record { 0 = code-one s t i }, s .one)
+saying offset elements c d s t = (λ i. record { 0 = code-one s t i }, s .one)
+saying included elements c d s t = (λ i. record { 0 = code-one s t i }, s .one)
+saying orientation elements c d s t = (λ i. record { 0 = code-one s t i }, s .one)
+saying bearing elements c d s t = (λ i. record { 0 = code-one s t i }, s .one)
+saying horizontalSpeed elements c d s t = (λ i. record { 0 = code-one s t i }, s .one)
+saying verticalSpeed elements c d s t = (λ i. record { 0 = (s .sign ∙ sym (t .sign)) i; 1 = (s .number ∙ sym (t .number)) i }, s .both)
+saying uncertaintySpeed elements c d s t = (λ i. record { 0 = code-one s t i }, s .one)
+saying confidence elements c d s t = (λ i. record { 0 = code-one s t i }, s .one)
+
+-- ---- what is told
+
+told-code-one : {f : Field} {z : ℤ} {a b : Told} → CodesElement f z a → CodesElement f z b → a ≡ b
+told-code-one (outside h e) (outside h′ e′) = e ∙ sym e′
+told-code-one (outside h e) (single.coded {x = x} s t) = absurd (h x s)
+told-code-one (single.coded {x = x} s t) (outside h e) = absurd (h x s)
+told-code-one {f} {z} {a} {b} (single.coded {x = x} s t) (single.coded {x = y} s′ t′) =
+    coded.told-one f x a b t (subst (λ (w : QuantityOf f). coding.TellsCode f w b) (quantity-one f z y x s′ s) t′)
+
+pub codes-field-one : {n : ℕ} {z : ℤ} {a b : Told} → CodesField n z a → CodesField n z b → a ≡ b
+codes-field-one (single.no-field h e) (single.no-field h′ e′) = e ∙ sym e′
+codes-field-one (single.no-field h e) (single.of-field {f = f} d c) = absurd (past-places f h d)
+codes-field-one (single.of-field {f = f} d c) (single.no-field h e) = absurd (past-places f h d)
+codes-field-one {z = z} {b = b} (single.of-field {f = f} d c) (single.of-field {f = g} e c′) = told-code-one c (subst (λ (k : Field). CodesElement k z b) (field-one g f e d) c′)
+
+told-quantity-one : {f : Field} {elements : List ℕ} {a b : Told} → ReportsElements f elements a → ReportsElements f elements b → a ≡ b
+told-quantity-one (too-short h e) (too-short h′ e′) = e ∙ sym e′
+told-quantity-one (too-short h e) (no-code l h′ e′) = absurd (omega arith)
+told-quantity-one {f} {elements} (too-short h e) (single.reported {c = c} s t) = absurd (omega (arith, saying f elements c c s s .1))
+told-quantity-one (no-code l h e) (too-short h′ e′) = absurd (omega arith)
+told-quantity-one (no-code l h e) (no-code l′ h′ e′) = e ∙ sym e′
+told-quantity-one (no-code l h e) (single.reported {c = c} s t) = absurd (h c s)
+told-quantity-one {f} {elements} (single.reported {c = c} s t) (too-short h e) = absurd (omega (arith, saying f elements c c s s .1))
+told-quantity-one (single.reported {c = c} s t) (no-code l h e) = absurd (h c s)
+told-quantity-one {f} {elements} {a} {b} (single.reported {c = c} s t) (single.reported {c = d} s′ t′) =
+    reported.told-one f c a b t (subst (λ (k : CodeOf f). reporting.TellsQuantity f k b) (saying f elements d c s′ s .0) t′)
+
+pub reports-field-one : {n : ℕ} {elements : List ℕ} {a b : Told} → ReportsField n elements a → ReportsField n elements b → a ≡ b
+reports-field-one (single.no-field h e) (single.no-field h′ e′) = e ∙ sym e′
+reports-field-one (single.no-field h e) (single.of-field {f = f} d c) = absurd (past-places f h d)
+reports-field-one (single.of-field {f = f} d c) (single.no-field h e) = absurd (past-places f h d)
+reports-field-one {elements = elements} {b = b} (single.of-field {f = f} d c) (single.of-field {f = g} e c′) =
+    told-quantity-one c (subst (λ (k : Field). ReportsElements k elements b) (field-one g f e d) c′)

@@ -1,0 +1,5 @@
+pub mod Answers
+pub mod CodeNumbers
+pub mod QuantityNumbers
+pub mod Shapes
+pub mod Velocities

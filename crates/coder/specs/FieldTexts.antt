@@ -1,0 +1,90 @@
+-- What is printed for the texts behind a field's name.
+use mathlib.Core.Path.{_≡_}
+use mathlib.Core.List.{List, [], _∷_}
+use Prim.Native.Nat.{ℕ}
+use lib.IntN.{ℤ}
+use lib.ListN.{length}
+use Rattle.ground.specs.declared.told.Told.{Told}
+use Rattle.fields.specs.Fields.{Field, latitude, longitude, uncertainty, altitudeUncertainty, altitude, innerRadius, offset, included, orientation, bearing, horizontalSpeed, verticalSpeed, uncertaintySpeed, confidence, CodeOf, QuantityOf}
+use Rattle.one_field.specs.declared.coding.Coordinate.{Coordinate}
+use Rattle.one_field.specs.declared.coding.Coordinate.the-variants as coordinate
+use Rattle.one_field.specs.declared.coding.Unsigned.{Unsigned}
+use Rattle.one_field.specs.declared.coding.Unsigned.the-variants as unsigned
+use Rattle.one_field.specs.Coding as coding
+use Rattle.one_field.specs.declared.reporting.Byte.{Byte}
+use Rattle.one_field.specs.declared.reporting.Byte.the-variants as byte
+use Rattle.one_field.specs.declared.reporting.Word.{Word}
+use Rattle.one_field.specs.declared.reporting.Word.the-variants as word
+use Rattle.one_field.specs.declared.reporting.Signed.{Signed}
+use Rattle.one_field.specs.declared.reporting.Signed.the-variants as signed
+use Rattle.one_field.specs.Reporting as reporting
+use Rattle.text.specs.LineFields.{IsAbsent, fieldsOf}
+use Rattle.text.specs.AnswerLines.{printedOf}
+use Rattle.text.specs.declared.printed.Printed.{Printed}
+use Rattle.text.specs.declared.printed.Printed.the-variants.{Unreadable, Refused}
+use Rattle.fields.specs.Places.{placeOf}
+use Rattle.one_field.specs.Coding.{countOf}
+use Rattle.coder.specs.Written.{TextSays, WriteNumbers, numbersOf}
+
+-- ---- coding
+
+-- one text that writes a quantity, or unreadable
+pub data CodesText (f : Field) (texts : List (List ℕ)) (r : Printed) : Type 0 where
+  coded : {text : List ℕ} {x : QuantityOf f} {told : Told} → texts ≡ text ∷ [] → TextSays f text x → coding.TellsCode f x told → r ≡ printedOf told → CodesText f texts r
+  no-quantity : ((text : List ℕ) (x : QuantityOf f) → texts ≡ text ∷ [] → TextSays f text x → ⊥) → r ≡ Unreadable → CodesText f texts r
+
+-- of the field at that place
+pub data CodesAt (place : ℕ) (texts : List (List ℕ)) (r : Printed) : Type 0 where
+  of-field : {f : Field} → placeOf f ≡ place → CodesText f texts r → CodesAt place texts r
+  no-field : ((f : Field) → placeOf f ≡ place → ⊥) → r ≡ Unreadable → CodesAt place texts r
+
+-- ---- reporting
+
+-- numbers that are a code, numbers that are none, or unreadable
+pub data ReportsText (f : Field) (texts : List (List ℕ)) (r : Printed) : Type 0 where
+  reported : {c : CodeOf f} {told : Told} → WriteNumbers texts (numbersOf f c) → reporting.TellsQuantity f c told → r ≡ printedOf told → ReportsText f texts r
+  no-code : {zs : List ℤ} → WriteNumbers texts zs → length zs ≡ countOf f → ((c : CodeOf f) → numbersOf f c ≡ zs → ⊥) → r ≡ Refused 7 → ReportsText f texts r
+  no-numbers : ((zs : List ℤ) → WriteNumbers texts zs → length zs ≡ countOf f → ⊥) → r ≡ Unreadable → ReportsText f texts r
+
+-- of the field at that place
+pub data ReportsAt (place : ℕ) (texts : List (List ℕ)) (r : Printed) : Type 0 where
+  of-field : {f : Field} → placeOf f ≡ place → ReportsText f texts r → ReportsAt place texts r
+  no-field : ((f : Field) → placeOf f ≡ place → ⊥) → r ≡ Unreadable → ReportsAt place texts r
+
+-- ---- the fields of a sort together
+
+abbrev pub coordinateField : Coordinate → Field
+coordinateField coordinate.Latitude = latitude
+coordinateField coordinate.Longitude = longitude
+
+abbrev pub byteField : Byte → Field
+byteField byte.Uncertainty = uncertainty
+byteField byte.AltitudeUncertainty = altitudeUncertainty
+byteField byte.Offset = offset
+byteField byte.Included = included
+byteField byte.Orientation = orientation
+byteField byte.UncertaintySpeed = uncertaintySpeed
+byteField byte.Confidence = confidence
+
+abbrev pub wordField : Word → Field
+wordField word.InnerRadius = innerRadius
+wordField word.Bearing = bearing
+wordField word.HorizontalSpeed = horizontalSpeed
+
+abbrev pub signedField : Signed → Field
+signedField signed.Latitude = latitude
+signedField signed.Altitude = altitude
+signedField signed.VerticalSpeed = verticalSpeed
+
+-- for a quantity that may be missing: one that is given
+abbrev pub CodesUnsigned : Unsigned → List ℕ → Printed → Type 0
+CodesUnsigned unsigned.Uncertainty text r = CodesText uncertainty (fieldsOf text) r
+CodesUnsigned unsigned.AltitudeUncertainty text r = CodesText altitudeUncertainty (fieldsOf text) r
+CodesUnsigned unsigned.InnerRadius text r = CodesText innerRadius (fieldsOf text) r
+CodesUnsigned unsigned.Offset text r = CodesText offset (fieldsOf text) r
+CodesUnsigned unsigned.Included text r = CodesText included (fieldsOf text) r
+CodesUnsigned unsigned.Orientation text r = CodesText orientation (fieldsOf text) r
+CodesUnsigned unsigned.Bearing text r = CodesText bearing (fieldsOf text) r
+CodesUnsigned unsigned.HorizontalSpeed text r = CodesText horizontalSpeed (fieldsOf text) r
+CodesUnsigned unsigned.UncertaintySpeed text r = (IsAbsent text → ⊥) → CodesText uncertaintySpeed (fieldsOf text) r
+CodesUnsigned unsigned.Confidence text r = (IsAbsent text → ⊥) → CodesText confidence (fieldsOf text) r

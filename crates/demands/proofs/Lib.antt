@@ -1,4 +1,0 @@
-pub mod OneMessage
-pub mod OneAnswer
-pub mod OneCoding
-pub mod Demand

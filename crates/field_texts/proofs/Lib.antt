@@ -1,3 +1,0 @@
-pub mod CodeLaws
-pub mod ReportLaws
-pub mod OneText

@@ -1,4 +1,0 @@
-pub mod Outlines
-pub mod Ranges
-pub mod Sizes
-pub mod Points

@@ -1,0 +1,130 @@
+-- A velocity's record that is made of elements is answered as the elements' own numbers are.
+use Prim.Native.Nat.{ℕ, _^_, _<_}
+use mathlib.Core.Path.{_≡_, refl, sym, ap, subst, _∙_}
+use mathlib.Core.List.{List}
+use native.Mathlib.Omega.{arith}
+use Rattle.ground.specs.Answers.{outcomeNumber}
+use Rattle.ground.specs.declared.refusals.Outcome.{Outcome}
+use Rattle.layout.specs.declared.Written.{Written}
+use Rattle.layout.specs.Layout.{
+  MessageField,
+  typeNumber,
+  count,
+  south,
+  latitude,
+  longitude,
+  depth,
+  altitude,
+  uncertainty,
+  semiMajor,
+  semiMinor,
+  orientation,
+  altitudeUncertainty,
+  confidence,
+  innerRadius,
+  offset,
+  included,
+  bearing,
+  horizontalSpeed,
+  down,
+  verticalSpeed,
+  speedUncertainty,
+  verticalUncertainty,
+  Row,
+  velocityRows,
+  velocityTypeOf,
+}
+use Rattle.layout.specs.Rows.{lengthOf}
+use Rattle.layout.specs.Demands.{TypeKnown, InFields, WriteAnswer, Writes}
+use Rattle.layout.specs.Velocities.{velocityKindOf, velocityOf, velocityValueOf, WritesVelocity}
+use Rattle.layout.proofs.TypeLaws.{no-velocity-kind}
+use Rattle.layout.proofs.DemandLaws.{sound}
+use Rattle.layout.proofs.WidthLaws.{velocityWidest, velocity-code-of}
+use Rattle.layout.proofs.ShapeRecords.{bit-back}
+use Rattle.layout.proofs.VelocityTrips.{type-back, velocity-of-values}
+use Rattle.code_arrays.specs.CodeNumbers.{elementAt, capped}
+use Rattle.code_arrays.specs.Answers.{elseOutOfRange}
+use Rattle.code_arrays.proofs.NumberLaws.{under}
+use Rattle.code_arrays.specs.Velocities.{velocityValueIn, arrayVelocityRows, velocityRecordIn, heldVelocity, WholeVelocity}
+use Rattle.library.proofs.AnswerLaws.{answer-alike, writes-alike, same-kind, cut, Alike, misfit}
+
+-- a number past the table is of no kind, also where it is cut
+kind-held : (n : ℕ) → velocityKindOf (capped 255 n) ≡ velocityKindOf n
+kind-held = same-kind velocityKindOf 255 (λ n h. sym (no-velocity-kind n (λ e. absurd (omega arith)) (λ e. absurd (omega arith)) (λ e. absurd (omega arith)) (λ e. absurd (omega arith))))
+
+module _ (elements : List ℕ) where
+  rows-held : velocityRows (heldVelocity elements .kind) ≡ arrayVelocityRows elements
+  rows-held = ap velocityRows (kind-held (elementAt elements 0))
+
+  module _ (whole : WholeVelocity elements) where
+    value-held : TypeKnown (arrayVelocityRows elements) → (f : MessageField) → velocityValueOf (heldVelocity elements) f ≡ velocityValueIn elements f
+    value-held l typeNumber = ap velocityTypeOf (kind-held (elementAt elements 0)) ∙ type-back (elementAt elements 0) l
+    value-held l bearing = sym (under (whole .turn))
+    value-held l horizontalSpeed = sym (under (whole .horizontal))
+    value-held l down = bit-back (elementAt elements 3) (omega arith)
+    value-held l verticalSpeed = sym (under (whole .vertical))
+    value-held l speedUncertainty = sym (under (whole .speed))
+    value-held l verticalUncertainty = sym (under (whole .vertical-speed))
+    value-held l count = refl
+    value-held l (south i) = refl
+    value-held l (latitude i) = refl
+    value-held l (longitude i) = refl
+    value-held l depth = refl
+    value-held l altitude = refl
+    value-held l uncertainty = refl
+    value-held l semiMajor = refl
+    value-held l semiMinor = refl
+    value-held l orientation = refl
+    value-held l altitudeUncertainty = refl
+    value-held l confidence = refl
+    value-held l innerRadius = refl
+    value-held l offset = refl
+    value-held l included = refl
+
+    pub held-velocity-writes : (before after : List ℕ) (w : Written) → WritesVelocity (heldVelocity elements) before after w → Writes (arrayVelocityRows elements) (velocityValueIn elements) before after w
+    held-velocity-writes before after w h =
+        writes-alike (arrayVelocityRows elements) (velocityValueOf (heldVelocity elements)) (velocityValueIn elements) value-held before after w
+        (subst (λ (rows : List Row). Writes rows (velocityValueOf (heldVelocity elements)) before after w) rows-held h)
+
+    pub held-velocity-answer : (m : ℕ) → WriteAnswer (velocityRows (heldVelocity elements .kind)) (velocityValueOf (heldVelocity elements)) (lengthOf (velocityRows (heldVelocity elements .kind))) m
+        → WriteAnswer (arrayVelocityRows elements) (velocityValueIn elements) (lengthOf (arrayVelocityRows elements)) m
+    held-velocity-answer m h =
+        answer-alike (arrayVelocityRows elements) (velocityValueOf (heldVelocity elements)) (velocityValueIn elements) value-held (lengthOf (arrayVelocityRows elements)) m
+        (subst (λ (rows : List Row). WriteAnswer rows (velocityValueOf (heldVelocity elements)) (lengthOf rows) m) rows-held h)
+
+    pub held-velocity-record : (room : ℕ) → WriteAnswer (arrayVelocityRows elements) (velocityValueIn elements) room 0 → heldVelocity elements ≡ velocityRecordIn elements
+    held-velocity-record room h =
+        let s = sound (arrayVelocityRows elements) (velocityValueIn elements) room h .0 in
+        sym (velocity-of-values (heldVelocity elements))
+        ∙ (λ i. velocityOf (kind-held (elementAt elements 0) i) (λ f. value-held (s .listed) f i))
+
+  alike : Alike (velocityRows (heldVelocity elements .kind)) (arrayVelocityRows elements) (velocityValueOf (heldVelocity elements)) (velocityValueIn elements)
+  alike = subst (λ (rows : List Row). Alike rows (arrayVelocityRows elements) (velocityValueOf (heldVelocity elements)) (velocityValueIn elements)) (sym rows-held) (record {
+    listed = λ l. l;
+    listed-back = λ l. l;
+    count-width = refl;
+    widths = λ f l m. refl;
+    least = cut 255 3 0 (omega arith) refl;
+    most = cut 255 16 0 (omega arith) refl;
+    orientations = cut 255 180 0 (omega arith) refl;
+    offsets = cut 255 180 0 (omega arith) refl;
+    includeds = cut 255 180 0 (omega arith) refl;
+    bearings = cut 65535 360 (elementAt elements 1) (omega arith) refl;
+    confidences = cut 255 101 0 (omega arith) refl;
+  })
+
+  whole-of : InFields (arrayVelocityRows elements) (velocityValueIn elements) → WholeVelocity elements
+  whole-of h =
+      let code : (f : MessageField) → velocityValueIn elements f < 2 ^ velocityWidest f = velocity-code-of (velocityKindOf (elementAt elements 0)) (velocityValueIn elements) h in
+      record {
+        turn = omega (arith, code bearing);
+        horizontal = omega (arith, code horizontalSpeed);
+        direction = omega (arith, code down);
+        vertical = omega (arith, code verticalSpeed);
+        speed = omega (arith, code speedUncertainty);
+        vertical-speed = omega (arith, code verticalUncertainty);
+      }
+
+  pub held-velocity-misfit : (WholeVelocity elements → ⊥) → (o : Outcome) (room : ℕ) → WriteAnswer (velocityRows (heldVelocity elements .kind)) (velocityValueOf (heldVelocity elements)) (lengthOf (velocityRows (heldVelocity elements .kind))) (outcomeNumber o)
+      → WriteAnswer (arrayVelocityRows elements) (velocityValueIn elements) room (outcomeNumber (elseOutOfRange o))
+  held-velocity-misfit n o room = misfit o alike (λ h. n (whole-of h)) room

@@ -1,0 +1,189 @@
+-- ONE FIELD'S CODE AND QUANTITY IN CELLS.
+use mathlib.Core.Path.{_≡_}
+use mathlib.Core.Bool.{Bool}
+use mathlib.Core.List.{List, [], _∷_}
+use Prim.Native.Nat.{ℕ, _≤_, _<_}
+use lib.IntN.{ℤ, pos}
+use lib.ListN.{length}
+use Rattle.ground.specs.declared.refusals.Outcome.{Outcome}
+use Rattle.ground.specs.declared.refusals.Outcome.the-variants as outcome
+use Rattle.ground.specs.declared.refusals.Refusal.the-variants.{UnknownType, WrongLength, OutOfRange}
+use Rattle.ground.specs.declared.quantity.UncertaintySpeed.{UncertaintySpeed}
+use Rattle.ground.specs.declared.quantity.UncertaintySpeed.the-variants as uncertain
+use Rattle.ground.specs.declared.quantity.Confidence.{Confidence}
+use Rattle.ground.specs.declared.quantity.Confidence.the-variants as confident
+use Rattle.ground.specs.declared.told.Told.{Told}
+use Rattle.ground.specs.declared.told.Told.the-variants as told
+use Rattle.octets.specs.Codes.{bitOf, signOf}
+use Rattle.fields.specs.Fields.{Field, latitude, longitude, uncertainty, altitudeUncertainty, altitude, innerRadius, offset, included, orientation, bearing, horizontalSpeed, verticalSpeed, uncertaintySpeed, confidence, CodeOf, QuantityOf}
+use Rattle.fields.specs.Places.{placeOf}
+use Rattle.one_field.specs.declared.coding.Unsigned.{Unsigned}
+use Rattle.one_field.specs.declared.coding.Unsigned.the-variants as unsigned
+use Rattle.one_field.specs.Coding as coding
+use Rattle.one_field.specs.Coding.{countOf}
+use Rattle.one_field.specs.declared.reporting.Byte.{Byte}
+use Rattle.one_field.specs.declared.reporting.Byte.the-variants as byte
+use Rattle.one_field.specs.declared.reporting.Word.{Word}
+use Rattle.one_field.specs.declared.reporting.Word.the-variants as word
+use Rattle.one_field.specs.declared.reporting.Signed.{Signed}
+use Rattle.one_field.specs.declared.reporting.Signed.the-variants as signed
+use Rattle.one_field.specs.Reporting as reporting
+use Rattle.code_arrays.specs.CodeNumbers.{elementAt, fromBits, bitsOf}
+use Rattle.code_arrays.specs.QuantityNumbers.{missing, Natural32, Signed32}
+
+-- ---- CODING
+
+-- the element's number is the one, and 32 bits hold it, without a sign or with one
+pub record IsNatural (z : ℤ) (n : ℕ) : Type 0 where
+  pub number : z ≡ pos n
+  pub fits : Natural32 z
+
+pub record IsSigned (z x : ℤ) : Type 0 where
+  pub number : z ≡ x
+  pub fits : Signed32 z
+
+abbrev pub IsUncertaintySpeed : ℤ → UncertaintySpeed → Type 0
+IsUncertaintySpeed z (uncertain.Speed s) = IsNatural z (s .0)
+IsUncertaintySpeed z uncertain.Missing = z ≡ missing
+
+abbrev pub IsConfidence : ℤ → Confidence → Type 0
+IsConfidence z (confident.PerCent p) = IsNatural z p
+IsConfidence z confident.Missing = z ≡ missing
+
+-- Quantities arrive signed in 64 bits for coordinates, signed in 32 for altitude and vertical speed, unsigned in 32 otherwise.
+abbrev pub QuantityArrives : (f : Field) → ℤ → QuantityOf f → Type 0
+QuantityArrives latitude z x = z ≡ x .0
+QuantityArrives longitude z x = z ≡ x .0
+QuantityArrives uncertainty z x = IsNatural z (x .0)
+QuantityArrives altitudeUncertainty z x = IsNatural z (x .0)
+QuantityArrives altitude z x = IsSigned z (x .0)
+QuantityArrives innerRadius z x = IsNatural z (x .0)
+QuantityArrives offset z x = IsNatural z (x .0)
+QuantityArrives included z x = IsNatural z (x .0)
+QuantityArrives orientation z x = IsNatural z (x .0)
+QuantityArrives bearing z x = IsNatural z (x .0)
+QuantityArrives horizontalSpeed z x = IsNatural z (x .0)
+QuantityArrives verticalSpeed z x = IsSigned z (x .0)
+QuantityArrives uncertaintySpeed z x = IsUncertaintySpeed z x
+QuantityArrives confidence z x = IsConfidence z x
+
+-- the field's coder tells of the quantity in the element; 7 where none arrives
+pub data CodesElement (f : Field) (z : ℤ) (r : Told) : Type 0 where
+  outside : ((x : QuantityOf f) → QuantityArrives f z x → ⊥) → r ≡ told.Refused OutOfRange → CodesElement f z r
+  coded : {x : QuantityOf f} → QuantityArrives f z x → coding.TellsCode f x r → CodesElement f z r
+
+-- of the field whose place is that number; 2 where there is none
+pub data CodesField (number : ℕ) (z : ℤ) (r : Told) : Type 0 where
+  no-field : 14 ≤ number → r ≡ told.Refused UnknownType → CodesField number z r
+  of-field : {f : Field} → placeOf f ≡ number → CodesElement f z r → CodesField number z r
+
+-- ---- REPORTING
+
+-- a code's elements: S or D and N, or N alone
+pub record IsSignedCode (elements : List ℕ) (s : Bool) (n : ℕ) : Type 0 where
+  pub both : 2 ≤ length elements
+  pub bit : elementAt elements 0 ≤ 1
+  pub sign : s ≡ signOf (elementAt elements 0)
+  pub number : n ≡ elementAt elements 1
+
+pub record IsCode (elements : List ℕ) (n : ℕ) : Type 0 where
+  pub one : 1 ≤ length elements
+  pub number : n ≡ elementAt elements 0
+
+pub record IsLongitude (elements : List ℕ) (x : ℤ) : Type 0 where
+  pub one : 1 ≤ length elements
+  pub number : x ≡ fromBits (elementAt elements 0)
+
+abbrev pub SaysCode : (f : Field) → List ℕ → CodeOf f → Type 0
+SaysCode latitude elements c = IsSignedCode elements (c .0) (c .1)
+SaysCode longitude elements c = IsLongitude elements (c .0)
+SaysCode uncertainty elements c = IsCode elements (c .0)
+SaysCode altitudeUncertainty elements c = IsCode elements (c .0)
+SaysCode altitude elements c = IsSignedCode elements (c .0) (c .1)
+SaysCode innerRadius elements c = IsCode elements (c .0)
+SaysCode offset elements c = IsCode elements (c .0)
+SaysCode included elements c = IsCode elements (c .0)
+SaysCode orientation elements c = IsCode elements (c .0)
+SaysCode bearing elements c = IsCode elements (c .0)
+SaysCode horizontalSpeed elements c = IsCode elements (c .0)
+SaysCode verticalSpeed elements c = IsSignedCode elements (c .0) (c .1)
+SaysCode uncertaintySpeed elements c = IsCode elements (c .0)
+SaysCode confidence elements c = IsCode elements (c .0)
+
+-- 3 where elements are missing, 7 where they say no code of the field's type, else what the field's reporter tells
+pub data ReportsElements (f : Field) (elements : List ℕ) (r : Told) : Type 0 where
+  too-short : length elements < countOf f → r ≡ told.Refused WrongLength → ReportsElements f elements r
+  no-code : countOf f ≤ length elements → ((c : CodeOf f) → SaysCode f elements c → ⊥) → r ≡ told.Refused OutOfRange → ReportsElements f elements r
+  reported : {c : CodeOf f} → SaysCode f elements c → reporting.TellsQuantity f c r → ReportsElements f elements r
+
+pub data ReportsField (number : ℕ) (elements : List ℕ) (r : Told) : Type 0 where
+  no-field : 14 ≤ number → r ≡ told.Refused UnknownType → ReportsField number elements r
+  of-field : {f : Field} → placeOf f ≡ number → ReportsElements f elements r → ReportsField number elements r
+
+-- ---- WHAT IS PUT
+
+abbrev pub toldOutcome : Told → Outcome
+toldOutcome (told.Refused why) = outcome.Refused why
+toldOutcome told.Missing = outcome.Done
+toldOutcome (told.Natural n) = outcome.Done
+toldOutcome (told.Signed s n) = outcome.Done
+toldOutcome (told.Longitude c) = outcome.Done
+toldOutcome (told.Coordinate x) = outcome.Done
+toldOutcome (told.Altitude a) = outcome.Done
+toldOutcome (told.VerticalSpeed v) = outcome.Done
+
+-- a code's elements; nothing else is told of a code
+abbrev pub toldCodeElements : Told → List ℕ
+toldCodeElements (told.Refused why) = []
+toldCodeElements told.Missing = []
+toldCodeElements (told.Natural n) = n ∷ []
+toldCodeElements (told.Signed s n) = bitOf s ∷ n ∷ []
+toldCodeElements (told.Longitude c) = bitsOf (c .0) ∷ []
+toldCodeElements (told.Coordinate x) = []
+toldCodeElements (told.Altitude a) = []
+toldCodeElements (told.VerticalSpeed v) = []
+
+-- a quantity's element; nothing else is told of a quantity
+abbrev pub toldQuantityElements : Told → List ℤ
+toldQuantityElements (told.Refused why) = []
+toldQuantityElements told.Missing = missing ∷ []
+toldQuantityElements (told.Natural n) = pos n ∷ []
+toldQuantityElements (told.Signed s n) = []
+toldQuantityElements (told.Longitude c) = []
+toldQuantityElements (told.Coordinate x) = x .0 ∷ []
+toldQuantityElements (told.Altitude a) = a .0 ∷ []
+toldQuantityElements (told.VerticalSpeed v) = v .0 ∷ []
+
+-- ---- the fields of a sort together
+
+abbrev pub CodesNatural : Unsigned → ℤ → Told → Type 0
+CodesNatural unsigned.Uncertainty z r = CodesElement uncertainty z r
+CodesNatural unsigned.AltitudeUncertainty z r = CodesElement altitudeUncertainty z r
+CodesNatural unsigned.InnerRadius z r = CodesElement innerRadius z r
+CodesNatural unsigned.Offset z r = CodesElement offset z r
+CodesNatural unsigned.Included z r = CodesElement included z r
+CodesNatural unsigned.Orientation z r = CodesElement orientation z r
+CodesNatural unsigned.Bearing z r = CodesElement bearing z r
+CodesNatural unsigned.HorizontalSpeed z r = CodesElement horizontalSpeed z r
+-- one that is given
+CodesNatural unsigned.UncertaintySpeed z r = (z ≡ missing → ⊥) → CodesElement uncertaintySpeed z r
+CodesNatural unsigned.Confidence z r = (z ≡ missing → ⊥) → CodesElement confidence z r
+
+abbrev pub ReportsByte : Byte → List ℕ → Told → Type 0
+ReportsByte byte.Uncertainty elements r = ReportsElements uncertainty elements r
+ReportsByte byte.AltitudeUncertainty elements r = ReportsElements altitudeUncertainty elements r
+ReportsByte byte.Offset elements r = ReportsElements offset elements r
+ReportsByte byte.Included elements r = ReportsElements included elements r
+ReportsByte byte.Orientation elements r = ReportsElements orientation elements r
+ReportsByte byte.UncertaintySpeed elements r = ReportsElements uncertaintySpeed elements r
+ReportsByte byte.Confidence elements r = ReportsElements confidence elements r
+
+abbrev pub ReportsWord : Word → List ℕ → Told → Type 0
+ReportsWord word.InnerRadius elements r = ReportsElements innerRadius elements r
+ReportsWord word.Bearing elements r = ReportsElements bearing elements r
+ReportsWord word.HorizontalSpeed elements r = ReportsElements horizontalSpeed elements r
+
+abbrev pub ReportsSigned : Signed → List ℕ → Told → Type 0
+ReportsSigned signed.Latitude elements r = ReportsElements latitude elements r
+ReportsSigned signed.Altitude elements r = ReportsElements altitude elements r
+ReportsSigned signed.VerticalSpeed elements r = ReportsElements verticalSpeed elements r

@@ -1,2 +1,0 @@
-pub mod TestLaws
-pub mod VelocityLaws

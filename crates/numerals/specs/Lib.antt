@@ -1,4 +1,0 @@
-pub mod Fields
-pub mod Marks
-pub mod Numerals
-pub mod Widths

@@ -1,0 +1,3 @@
+pub mod AboveLaws
+pub mod OneCode
+pub mod OneQuantity

@@ -1,0 +1,6 @@
+pub mod Kinds
+pub mod Outlines
+pub mod Points
+pub mod Ranges
+pub mod Sizes
+pub mod Unused

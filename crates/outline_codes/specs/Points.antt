@@ -1,0 +1,48 @@
+-- The codes of a polygon's points.
+use mathlib.Core.Path.{_≡_}
+use mathlib.Core.Bool.{Bool, true, false}
+use mathlib.Core.List.{List}
+use Prim.Native.Nat.{ℕ}
+use lib.Dec.{ltb}
+use lib.ListN.{length, getD}
+use Rattle.ground.specs.Answers.{done, refused}
+use Rattle.ground.specs.declared.code.LatitudeCode.{LatitudeCode}
+use Rattle.ground.specs.declared.code.LongitudeCode.{LongitudeCode}
+use Rattle.ground.specs.declared.quantity.Nanodegrees.{Nanodegrees}
+use Rattle.fields.specs.Fields.{Coding}
+use Rattle.fields.specs.Fields as field
+use Rattle.layout.specs.Shapes.{zeroLatitude, zeroLongitude}
+use Rattle.quantities.specs.Shapes.{zeroDegrees}
+use Rattle.outline_codes.specs.declared.points.Points.{Points}
+use Rattle.outline_codes.specs.declared.points.PointCoded.{PointCoded}
+use Rattle.outline_codes.specs.declared.points.PointCoded.the-variants.{Codes, OutOfRange}
+
+-- a point that is used is in range, and one that isn't is zero
+pub record PointKept (used : Bool) (x y : Nanodegrees) : Type 0 where
+  pub latitudes : used ≡ true → Coding field.latitude x (refused 7) → ⊥
+  pub longitudes : used ≡ true → Coding field.longitude y (refused 7) → ⊥
+  pub no-latitudes : used ≡ false → x ≡ zeroDegrees
+  pub no-longitudes : used ≡ false → y ≡ zeroDegrees
+
+pub record PointCodes (used : Bool) (x y : Nanodegrees) (c : LatitudeCode) (d : LongitudeCode) : Type 0 where
+  pub latitudes : used ≡ true → Coding field.latitude x (done c)
+  pub longitudes : used ≡ true → Coding field.longitude y (done d)
+  pub no-latitudes : used ≡ false → (x ≡ zeroDegrees) × (c ≡ zeroLatitude)
+  pub no-longitudes : used ≡ false → (y ≡ zeroDegrees) × (d ≡ zeroLongitude)
+
+abbrev pub CodesPoint : Bool → Nanodegrees → Nanodegrees → PointCoded → Type 0
+CodesPoint used x y (Codes c d) = PointCodes used x y c d
+CodesPoint used x y OutOfRange = PointKept used x y → ⊥
+
+-- the first n are used
+abbrev pub PointsKept : List Nanodegrees → List Nanodegrees → ℕ → Type 0
+PointsKept xs ys n = (i : ℕ) → PointKept (ltb i n) (getD xs i zeroDegrees) (getD ys i zeroDegrees)
+
+pub record PointsCodes (xs ys : List Nanodegrees) (n : ℕ) (r : Points) : Type 0 where
+  pub all-latitudes : length (r .latitudes) ≡ 15
+  pub all-longitudes : length (r .longitudes) ≡ 15
+  pub each : (i : ℕ) → PointCodes (ltb i n) (getD xs i zeroDegrees) (getD ys i zeroDegrees) (getD (r .latitudes) i zeroLatitude) (getD (r .longitudes) i zeroLongitude)
+
+pub record CodesPoints (xs ys : List Nanodegrees) (n : ℕ) (r : Points) : Type 0 where
+  pub coded : r .«in_range» ≡ true → PointsCodes xs ys n r
+  pub out : r .«in_range» ≡ false → PointsKept xs ys n → ⊥

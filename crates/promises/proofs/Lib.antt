@@ -1,3 +1,0 @@
-pub mod OneRequest
-pub mod OneField
-pub mod OneAnswer

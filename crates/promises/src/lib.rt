@@ -1,1 +1,0 @@
-// No code: the laws over the promises of the library's calls. proofs/Lib.antt lists them.

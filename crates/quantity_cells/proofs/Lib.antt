@@ -1,2 +1,0 @@
-pub mod CellLaws
-pub mod PointLaws

@@ -1,2 +1,0 @@
-pub mod AboveLaws
-pub mod OneTold

@@ -1,0 +1,4 @@
+pub mod AmountLaws
+pub mod AskingLaws
+pub mod EntryLaws
+pub mod PartedLaws

@@ -1,8 +1,0 @@
-pub mod OneAnswer
-pub mod Trips
-pub mod WidthLaws
-pub mod ShapeRecords
-pub mod ShapeTrips
-pub mod VelocityTrips
-pub mod SpareLaws
-pub mod ReadNumberLaws

@@ -1,2 +1,0 @@
-pub mod Spare
-pub mod ReadNumbers
