@@ -35,8 +35,8 @@ use Rattle.code_arrays.specs.Shapes.{shapeElements, arrayRows, valueIn, recordI
 use Rattle.code_arrays.specs.Velocities.{velocityElements, arrayVelocityRows, velocityValueIn, velocityRecordIn}
 use Rattle.quantity_arrays.specs.Shapes.{quantityElements, quantitiesIn}
 use Rattle.quantity_arrays.specs.Velocities.{velocityQuantityElements, velocityQuantitiesIn}
-use Rattle.library.specs.Fields.{toldOutcome}
-use Rattle.library.specs.Fields as single
+use Rattle.field_arrays.specs.Fields.{toldOutcome}
+use Rattle.field_arrays.specs.Fields as single
 use Rattle.array_records.specs.Records.{CodeElementsAnswer}
 use Rattle.library.specs.Promises.{ReadsShapeInto, ReadsVelocityInto, WritesTold, WritesShapeFrom, WritesVelocityFrom, ReportsShapeFrom, ReportsVelocityFrom, CodesShapeFrom, CodesVelocityFrom, ChoosesIn, no-request, chosen, ChoosesFrom, CodesOne, ReportsOne}
 use Rattle.claims.proofs.OneRequest.{request-one}

@@ -19,8 +19,8 @@ use Rattle.one_field.specs.Coding.{countOf}
 use Rattle.one_field.proofs.OneCode as coded
 use Rattle.one_field.specs.Reporting as reporting
 use Rattle.one_field.proofs.OneQuantity as reported
-use Rattle.library.specs.Fields.{IsNatural, IsSigned, IsUncertaintySpeed, IsConfidence, QuantityArrives, CodesElement, outside, CodesField, IsCode, SaysCode, ReportsElements, too-short, no-code, ReportsField}
-use Rattle.library.specs.Fields as single
+use Rattle.field_arrays.specs.Fields.{IsNatural, IsSigned, IsUncertaintySpeed, IsConfidence, QuantityArrives, CodesElement, outside, CodesField, IsCode, SaysCode, ReportsElements, too-short, no-code, ReportsField}
+use Rattle.field_arrays.specs.Fields as single
 use Rattle.claims.proofs.OneRequest.{byNumber, confidenceIn}
 
 -- ---- the field of a number

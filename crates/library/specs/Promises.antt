@@ -32,8 +32,8 @@ use Rattle.code_arrays.specs.Velocities.{velocityElements, arrayVelocityRows, v
 use Rattle.quantity_arrays.specs.Shapes.{quantityElements}
 use Rattle.quantity_arrays.specs.Velocities.{velocityQuantityElements, velocityQuantitiesIn, VelocityArrives}
 use Rattle.library.specs.Requests.{ElementsSay}
-use Rattle.library.specs.Fields.{CodesField, ReportsField, toldOutcome}
-use Rattle.library.specs.Fields as single
+use Rattle.field_arrays.specs.Fields.{CodesField, ReportsField, toldOutcome}
+use Rattle.field_arrays.specs.Fields as single
 
 -- ---- READING: what a reader that keeps its promise hands back is put into the array
 

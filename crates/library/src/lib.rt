@@ -1,7 +1,5 @@
 // The library's calls over octets and arrays of numbers, behind the C interface of `desk`: reading, writing, reporting, coding, the choice
 // and the single codes. What each says of what its arrays hold is what the inner function says (specs/).
-mod field_code;
-mod field_quantity;
 mod request;
 mod shape_calls;
 mod single_calls;

@@ -1,6 +1,4 @@
 // The choice of shape for one point, and the code and the quantity of one field.
-use crate::field_code;
-use crate::field_quantity;
 use crate::request;
 use ground::Outcome;
 use ground::Refusal;
@@ -27,12 +25,12 @@ pub fn choose(out: &mut [u8], request: &[i64], list: u16) -> Whole
 pub fn code(numbers: &mut [u32], field: u8, quantity: Whole) -> Whole
     ensures { λ r. ⌜ CodesOne field (quantity .0) (now (numbers .entry)) (now (numbers .exit)) (r .0) ⌝ }
 {
-    field_code::put_code(numbers, field_code::coded(field, quantity))
+    field_arrays::put_code(numbers, field_arrays::coded(field, quantity))
 }
 
 // The quantity of one code.
 pub fn report(quantity: &mut [i64], field: u8, numbers: &[u32]) -> Whole
     ensures { λ r. ⌜ ReportsOne field (now (numbers .entry)) (now (quantity .entry)) (now (quantity .exit)) (r .0) ⌝ }
 {
-    field_quantity::put_quantity(quantity, field_quantity::reported(field, numbers))
+    field_arrays::put_quantity(quantity, field_arrays::reported(field, numbers))
 }

@@ -4,6 +4,7 @@
 mod calls;
 mod given;
 mod print;
+mod verb;
 
 use streaming::Input;
 ghost use mathlib.Core.Path.{_≡_};
@@ -45,7 +46,7 @@ fn take_case(line: &[u8]) {
         return;
     }
     let from = end + 1;
-    calls::call(&line[0..end], given::numbers_in(&line[from..]));
+    calls::call(verb::named(&line[0..end]), given::numbers_in(&line[from..]));
 }
 
 fn main() {

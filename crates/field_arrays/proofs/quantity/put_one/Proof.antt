@@ -1,0 +1,25 @@
+-- `quantity::put_one` meets its contract: the one element is the first.
+use mathlib.Core.Path.{refl}
+use native.Mathlib.Omega.{arith}
+use mir.Syntax.{w64}
+use mir.Facts.{toZ-ofZ}
+use Rattle.code_arrays.proofs.PutLaws.{puts-short, puts-done}
+use Rattle.code_arrays.proofs.CopyLaws.{first-stored}
+use borrow.Author.Needs.{needs}
+use Rattle.field_arrays.proofs.quantity.put_one.Statement.{statement}
+use Rattle.field_arrays.proofs.quantity.put_one.Tie as tie
+
+returns : tie.Need-returns
+returns c = puts-short (omega arith) (c .answer .ensures) refl
+
+returns-2 : tie.Need-returns-2
+returns-2 c =
+    let given = c .before .before .before .args in
+    let answer2 = c .answer2 in
+    puts-done (omega arith) (answer2 .ensures) (rw (toZ-ofZ {w = w64} {z = given .quantity .0} (search needs)) (first-stored (given .out .now) (given .quantity .0) (omega arith)))
+
+pub put-one-spec : {M : Type 1} → statement M
+put-one-spec =
+    tie.close
+    (tie.spec
+    (λ c κs. search needs) returns (λ c. search needs) (λ c κs. search needs) (λ c. search needs) returns-2)
