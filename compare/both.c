@@ -35,7 +35,7 @@ typedef int64_t caller(void *to, size_t room, const void *from, const struct cal
 #define ARRAY_CALLER(side, name)                                                                 \
     static int64_t side##_##name##_call(void *to, size_t room, const void *from, const struct call *call) \
     {                                                                                            \
-        return side##_##name(to, room, from, call->given_cells);                                 \
+        return side##_##name(to, room, from, call->given_elements);                                 \
     }
 #define CALLERS(side)                                                                            \
     ARRAY_CALLER(side, read_shape)                                                               \
@@ -48,7 +48,7 @@ typedef int64_t caller(void *to, size_t room, const void *from, const struct cal
     ARRAY_CALLER(side, code_velocity)                                                            \
     static int64_t side##_choose_call(void *to, size_t room, const void *from, const struct call *call) \
     {                                                                                            \
-        return side##_choose(to, room, from, call->given_cells, call->list);                     \
+        return side##_choose(to, room, from, call->given_elements, call->list);                     \
     }                                                                                            \
     static int64_t side##_code_call(void *to, size_t room, const void *from, const struct call *call) \
     {                                                                                            \
@@ -57,7 +57,7 @@ typedef int64_t caller(void *to, size_t room, const void *from, const struct cal
     }                                                                                            \
     static int64_t side##_report_call(void *to, size_t room, const void *from, const struct call *call) \
     {                                                                                            \
-        return side##_report(to, room, call->field, from, call->given_cells);                    \
+        return side##_report(to, room, call->field, from, call->given_elements);                    \
     }                                                                                            \
     static caller *const side##_callers[FUNCTIONS] = {                                           \
         side##_read_shape_call, side##_read_velocity_call, side##_write_shape_call, side##_write_velocity_call, \
@@ -73,7 +73,7 @@ static const char *const side_names[SIDES] = {"library", "second"};
 
 // ---- Arrays that end where memory ends, so that a look or a write past the end can't go unseen ----
 
-enum { MARGIN = 64, PATTERN = 0xA5, MOST_OCTETS = MARGIN + 8 * MOST_CELLS };
+enum { MARGIN = 64, PATTERN = 0xA5, MOST_OCTETS = MARGIN + 8 * MOST_ELEMENTS };
 
 static uint8_t *given_end[SIDES], *filled_end[SIDES];
 static uint8_t untouched[MOST_OCTETS];
@@ -94,10 +94,10 @@ unsigned differences_to_show;
 
 // ---- A difference, for people to look at ----
 
-static void show_cells(const char *name, const void *from, size_t cells, size_t octets)
+static void show_elements(const char *name, const void *from, size_t elements, size_t octets)
 {
-    printf("    %s, %zu:", name, cells);
-    for (size_t i = 0; i < cells; i++) {
+    printf("    %s, %zu:", name, elements);
+    for (size_t i = 0; i < elements; i++) {
         uint32_t code = 0;
         int64_t quantity = 0;
         const uint8_t *at = (const uint8_t *)from + i * octets;
@@ -126,8 +126,8 @@ static void show_call(const struct call *call)
     if (call->function == CODE)
         printf(", quantity %" PRId64, call->quantity);
     printf("\n");
-    if (call->given_cells > 0)
-        show_cells("given", call->given, call->given_cells, s->given_octets);
+    if (call->given_elements > 0)
+        show_elements("given", call->given, call->given_elements, s->given_octets);
 }
 
 static void show_difference(const struct call *call, const int64_t answers[SIDES])
@@ -136,7 +136,7 @@ static void show_difference(const struct call *call, const int64_t answers[SIDES
     show_call(call);
     for (int side = 0; side < SIDES; side++) {
         printf("    %s answers %" PRId64 "\n", side_names[side], answers[side]);
-        show_cells("array to fill, after the call", filled_end[side] - call->room * octets, call->room, octets);
+        show_elements("array to fill, after the call", filled_end[side] - call->room * octets, call->room, octets);
     }
     fflush(stdout);
 }
@@ -180,7 +180,7 @@ static int64_t call_side(enum side side, const struct call *call, size_t given, 
     return callers[side][call->function](room == 0 && null ? NULL : to, call->room, given == 0 && null ? NULL : from, call);
 }
 
-// Whether a side left alone what it may not change: the given array, what lies before the filled one, and all after the last cell put.
+// Whether a side left alone what it may not change: the given array, what lies before the filled one, and all after the last element put.
 static int kept(enum side side, const struct call *call, size_t given, size_t room, size_t put)
 {
     return put <= room && memcmp(filled_end[side] - room - MARGIN, untouched, MARGIN) == 0
@@ -191,7 +191,7 @@ static int kept(enum side side, const struct call *call, size_t given, size_t ro
 int64_t hold(const struct call *call, union filled *filled)
 {
     const struct signature *s = &signatures[call->function];
-    size_t given = call->given_cells * s->given_octets, room = call->room * s->filled_octets;
+    size_t given = call->given_elements * s->given_octets, room = call->room * s->filled_octets;
     int64_t answers[SIDES];
     int same = 1;
     for (int side = 0; side < SIDES; side++) {
@@ -213,8 +213,8 @@ int64_t hold(const struct call *call, union filled *filled)
     return answers[LIBRARY];
 }
 
-int64_t hold_whole(enum function function, const void *given, size_t given_cells, union filled *filled)
+int64_t hold_whole(enum function function, const void *given, size_t given_elements, union filled *filled)
 {
-    struct call call = {.function = function, .given = given, .given_cells = given_cells, .room = signatures[function].filled_cells};
+    struct call call = {.function = function, .given = given, .given_elements = given_elements, .room = signatures[function].filled_elements};
     return hold(&call, filled);
 }

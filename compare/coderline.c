@@ -41,7 +41,7 @@ static int parse_line(const uint8_t *line, size_t length, struct asked *asked)
         return 1;
     if (!take_number(&at, end, &asked->first))
         return 0;
-    if (asked->report && field_cells(field) == 2) {
+    if (asked->report && field_elements(field) == 2) {
         if (at == end)
             return 0;
         at++; // the space that ended the first number
@@ -76,12 +76,12 @@ static struct answered report_line(const struct asked *asked)
         answered.answer = report_latitude(first, second, quantity);
     } else if (asked->field == GAD_FIELD_LONGITUDE) {
         answered.answer = report_longitude(first, quantity);
-    } else if (field_cells(asked->field) == 2) {
+    } else if (field_elements(asked->field) == 2) {
         answered.answer = (asked->field == GAD_FIELD_ALTITUDE ? report_altitude : report_vertical_speed)(first, second, &narrow);
         *quantity = narrow;
     } else if (is_optional(asked->field)) {
         answered.answer = (asked->field == GAD_FIELD_CONFIDENCE ? report_confidence : report_uncertainty_speed)(first, &optional);
-        *quantity = optional_cell(optional);
+        *quantity = optional_element(optional);
     } else {
         answered.answer = simple_fields[asked->field].report(first, &size);
         *quantity = size;
@@ -89,7 +89,7 @@ static struct answered report_line(const struct asked *asked)
     return answered;
 }
 
-// The quantity as a cell; 0 if it doesn't fit the width in which it arrives.
+// The quantity as an element; 0 if it doesn't fit the width in which it arrives.
 static int take_quantity(const struct asked *asked, int64_t *quantity)
 {
     int32_t narrow = 0;
@@ -111,10 +111,10 @@ static int take_quantity(const struct asked *asked, int64_t *quantity)
 
 static struct answered code_line(const struct asked *asked, int64_t quantity)
 {
-    uint32_t cells[2] = {0};
-    struct answered answered = {code_field(asked->field, quantity, cells), field_cells(asked->field), {0}};
-    answered.numbers[0] = asked->field == GAD_FIELD_LONGITUDE ? (int32_t)cells[0] : (int64_t)cells[0];
-    answered.numbers[1] = cells[1];
+    uint32_t elements[2] = {0};
+    struct answered answered = {code_field(asked->field, quantity, elements), field_elements(asked->field), {0}};
+    answered.numbers[0] = asked->field == GAD_FIELD_LONGITUDE ? (int32_t)elements[0] : (int64_t)elements[0];
+    answered.numbers[1] = elements[1];
     return answered;
 }
 

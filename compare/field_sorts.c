@@ -9,10 +9,10 @@ static void code_single(uint32_t field, int64_t quantity, size_t room)
     hold(&call, NULL);
 }
 
-static void report_single(uint32_t field, uint32_t first, uint32_t second, size_t code_cells, size_t room)
+static void report_single(uint32_t field, uint32_t first, uint32_t second, size_t code_elements, size_t room)
 {
     const uint32_t code[4] = {first, second, 12345, 0};
-    struct call call = {.function = REPORT, .given = code, .given_cells = code_cells, .room = room, .field = (uint8_t)field};
+    struct call call = {.function = REPORT, .given = code, .given_elements = code_elements, .room = room, .field = (uint8_t)field};
     hold(&call, NULL);
 }
 
@@ -33,7 +33,7 @@ void single_quantities(void)
                 }
 }
 
-// Every code of a field of up to 16 bits, and some beyond; every field number with odd codes, cells and rooms.
+// Every code of a field of up to 16 bits, and some beyond; every field number with odd codes, elements and rooms.
 void single_codes(void)
 {
     static const uint32_t odd[] = {0, 1, 2, 100, 101, 127, 128, 179, 180, 255, 256, 359, 360, 511, 32767, 32768, 65535, 65536, 8388607, 8388608, 16777215,
@@ -52,22 +52,22 @@ void single_codes(void)
 }
 
 // One quantity in a good shape of the type.
-static void code_in_shape(uint32_t type, size_t cell, int64_t quantity)
+static void code_in_shape(uint32_t type, size_t element, int64_t quantity)
 {
     uint32_t codes[GAD_SHAPE_CODES];
     int64_t quantities[GAD_SHAPE_QUANTITIES];
     base_shape(type, codes, quantities);
-    if (cell == GAD_SEMI_MAJOR)
+    if (element == GAD_SEMI_MAJOR)
         quantities[GAD_SEMI_MINOR] = 0;
-    if (cell == GAD_SEMI_MINOR)
+    if (element == GAD_SEMI_MINOR)
         quantities[GAD_SEMI_MAJOR] = radius_table[127];
-    quantities[cell] = quantity;
+    quantities[element] = quantity;
     hold_whole(CODE_SHAPE, quantities, GAD_SHAPE_QUANTITIES, NULL);
 }
 
 static void ask_under_every_list(const int64_t request[GAD_REQUEST])
 {
-    struct call call = {.function = CHOOSE, .given = request, .given_cells = GAD_REQUEST, .room = 14};
+    struct call call = {.function = CHOOSE, .given = request, .given_elements = GAD_REQUEST, .room = 14};
     for (uint32_t subset = 0; subset < REQUEST_LISTS; subset++) {
         call.list = subset_of_types(subset);
         hold(&call, NULL);

@@ -1,4 +1,4 @@
-// Single codes and quantities by the numbers of their fields in include/gad.h. A quantity is a cell of 64 bits, GAD_MISSING for none.
+// Single codes and quantities by the numbers of their fields in include/gad.h. A quantity is an element of 64 bits, GAD_MISSING for none.
 #ifndef COMPARE_FIELDS_H
 #define COMPARE_FIELDS_H
 
@@ -11,7 +11,7 @@ static const char *const field_names[GAD_FIELDS] = {
 };
 
 // The numbers of a code: two where it has a sign, which is the first.
-static inline size_t field_cells(uint8_t field)
+static inline size_t field_elements(uint8_t field)
 {
     return field == GAD_FIELD_LATITUDE || field == GAD_FIELD_ALTITUDE || field == GAD_FIELD_VERTICAL_SPEED ? 2 : 1;
 }
@@ -37,61 +37,61 @@ static const struct simple_field {
     [GAD_FIELD_HORIZONTAL_SPEED] = {code_horizontal_speed, report_horizontal_speed},
 };
 
-// ---- Cells taken in the widths in which quantities arrive; `outside` is set by a cell that its width can't hold ----
+// ---- Elements taken in the widths in which quantities arrive; `outside` is set by an element that its width can't hold ----
 
-static inline uint32_t take_unsigned(int64_t cell, int *outside)
+static inline uint32_t take_unsigned(int64_t element, int *outside)
 {
-    *outside |= cell < 0 || cell > UINT32_MAX;
-    return (uint32_t)cell;
+    *outside |= element < 0 || element > UINT32_MAX;
+    return (uint32_t)element;
 }
 
-static inline int32_t take_signed(int64_t cell, int *outside)
+static inline int32_t take_signed(int64_t element, int *outside)
 {
-    *outside |= cell < INT32_MIN || cell > INT32_MAX;
-    return (int32_t)cell;
+    *outside |= element < INT32_MIN || element > INT32_MAX;
+    return (int32_t)element;
 }
 
-static inline struct optional take_optional(int64_t cell, int *outside)
+static inline struct optional take_optional(int64_t element, int *outside)
 {
-    return cell == GAD_MISSING ? (struct optional){0, 0} : (struct optional){1, take_unsigned(cell, outside)};
+    return element == GAD_MISSING ? (struct optional){0, 0} : (struct optional){1, take_unsigned(element, outside)};
 }
 
-static inline int64_t optional_cell(struct optional optional)
+static inline int64_t optional_element(struct optional optional)
 {
     return optional.given ? (int64_t)optional.value : GAD_MISSING;
 }
 
 // ---- One code, one quantity ----
 
-static inline enum answer code_longitude_cell(int64_t quantity, uint32_t *cell)
+static inline enum answer code_longitude_element(int64_t quantity, uint32_t *element)
 {
     int32_t code = 0;
     enum answer answer = code_longitude(quantity, &code);
-    *cell = (uint32_t)code;
+    *element = (uint32_t)code;
     return answer;
 }
 
-static inline enum answer code_field(uint8_t field, int64_t quantity, uint32_t cells[2])
+static inline enum answer code_field(uint8_t field, int64_t quantity, uint32_t elements[2])
 {
     int outside = 0;
     if (field == GAD_FIELD_LATITUDE)
-        return code_latitude(quantity, &cells[0], &cells[1]);
+        return code_latitude(quantity, &elements[0], &elements[1]);
     if (field == GAD_FIELD_LONGITUDE)
-        return code_longitude_cell(quantity, cells);
+        return code_longitude_element(quantity, elements);
     if (field == GAD_FIELD_ALTITUDE || field == GAD_FIELD_VERTICAL_SPEED) {
         int32_t narrow = take_signed(quantity, &outside);
         if (outside)
             return OUT_OF_RANGE;
-        return (field == GAD_FIELD_ALTITUDE ? code_altitude : code_vertical_speed)(narrow, &cells[0], &cells[1]);
+        return (field == GAD_FIELD_ALTITUDE ? code_altitude : code_vertical_speed)(narrow, &elements[0], &elements[1]);
     }
     if (is_optional(field)) {
         struct optional optional = take_optional(quantity, &outside);
         if (outside)
             return OUT_OF_RANGE;
-        return (field == GAD_FIELD_CONFIDENCE ? code_confidence : code_uncertainty_speed)(optional, cells);
+        return (field == GAD_FIELD_CONFIDENCE ? code_confidence : code_uncertainty_speed)(optional, elements);
     }
     uint32_t size = take_unsigned(quantity, &outside);
-    return outside ? OUT_OF_RANGE : simple_fields[field].code(size, cells);
+    return outside ? OUT_OF_RANGE : simple_fields[field].code(size, elements);
 }
 
 #endif

@@ -423,7 +423,7 @@ static void some_line(void)
         return;
     }
     say("report %s ", field_names[field]);
-    if (field_cells(field) == 2) {
+    if (field_elements(field) == 2) {
         static const int64_t odd[] = {2, 3, -1, 255, 256, 4294967296};
         say("%lld ", (long long)(one_in(50) ? PICK(odd) : below(2)));
     }
@@ -454,7 +454,7 @@ static void lines(uint64_t seed, uint64_t count)
 
 static void report_every_code(uint8_t field)
 {
-    int has_sign = field_cells(field) == 2;
+    int has_sign = field_elements(field) == 2;
     for (int64_t code = -2; code <= last_codes[field] + 200; code++)
         for (int sign = 0; sign <= has_sign; sign++) {
             say("report %s ", field_names[field]);
@@ -475,7 +475,7 @@ static void code_every_boundary(uint8_t field)
                 quantity = (int64_t)(field == GAD_FIELD_UNCERTAINTY ? radius_table : height_table)[code < 128 ? code : 127] + by;
             say("code %s %lld", field_names[field], (long long)quantity);
             put_line();
-            if (field_cells(field) == 2) {
+            if (field_elements(field) == 2) {
                 say("code %s %lld", field_names[field], (long long)-quantity);
                 put_line();
             }

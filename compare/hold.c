@@ -15,10 +15,10 @@ struct sort {
 static const struct sort sorts[] = {
     {"octets: every first octet with every length", first_octets_and_lengths, 0},
     {"arrays: every type number", type_numbers, 0},
-    {"arrays: every boundary of every cell, alone", boundaries_alone, 0},
-    {"arrays: every boundary of every cell, in pairs", boundaries_in_pairs, 0},
+    {"arrays: every boundary of every element, alone", boundaries_alone, 0},
+    {"arrays: every boundary of every element, in pairs", boundaries_in_pairs, 0},
     {"arrays: every polygon count, points after the last", polygon_counts, 0},
-    {"arrays: every number of cells with every room", every_room, 0},
+    {"arrays: every number of elements with every room", every_room, 0},
     {"single quantities: every field number, ends, rooms", single_quantities, 0},
     {"single codes: every code up to 16 bits, every field number", single_codes, 0},
     {"both radius tables, each entry and its neighbours", radius_tables, 0},

@@ -7,7 +7,7 @@
 
 struct message {
     enum function reader;
-    uint8_t octets[MOST_CELLS];
+    uint8_t octets[MOST_ELEMENTS];
     size_t length;
 };
 
@@ -78,12 +78,12 @@ void trip(void)
     const enum function *functions = trips[message.reader == READ_VELOCITY];
     union filled filled[2];
     const void *given = message.octets;
-    size_t cells = message.length;
+    size_t elements = message.length;
     for (size_t i = 0; i < 4; i++) {
-        int64_t answer = hold_whole(functions[i], given, cells, &filled[i % 2]);
+        int64_t answer = hold_whole(functions[i], given, elements, &filled[i % 2]);
         if (answer < 0)
             return;
         given = &filled[i % 2];
-        cells = (size_t)answer;
+        elements = (size_t)answer;
     }
 }

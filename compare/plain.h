@@ -5,16 +5,16 @@
 
 #include "../include/gad.h"
 
-int64_t plain_read_shape(uint32_t *codes, size_t code_cells, const uint8_t *message, size_t octets);
-int64_t plain_read_velocity(uint32_t *codes, size_t code_cells, const uint8_t *message, size_t octets);
-int64_t plain_write_shape(uint8_t *out, size_t room, const uint32_t *codes, size_t code_cells);
-int64_t plain_write_velocity(uint8_t *out, size_t room, const uint32_t *codes, size_t code_cells);
-int64_t plain_report_shape(int64_t *quantities, size_t quantity_cells, const uint32_t *codes, size_t code_cells);
-int64_t plain_report_velocity(int64_t *quantities, size_t quantity_cells, const uint32_t *codes, size_t code_cells);
-int64_t plain_code_shape(uint32_t *codes, size_t code_cells, const int64_t *quantities, size_t quantity_cells);
-int64_t plain_code_velocity(uint32_t *codes, size_t code_cells, const int64_t *quantities, size_t quantity_cells);
-int64_t plain_choose(uint8_t *out, size_t room, const int64_t *request, size_t request_cells, uint16_t list);
-int64_t plain_code(uint32_t *code, size_t code_cells, uint8_t field, int64_t quantity);
-int64_t plain_report(int64_t *quantity, size_t quantity_cells, uint8_t field, const uint32_t *code, size_t code_cells);
+int64_t plain_read_shape(uint32_t *codes, size_t code_elements, const uint8_t *message, size_t octets);
+int64_t plain_read_velocity(uint32_t *codes, size_t code_elements, const uint8_t *message, size_t octets);
+int64_t plain_write_shape(uint8_t *out, size_t room, const uint32_t *codes, size_t code_elements);
+int64_t plain_write_velocity(uint8_t *out, size_t room, const uint32_t *codes, size_t code_elements);
+int64_t plain_report_shape(int64_t *quantities, size_t quantity_elements, const uint32_t *codes, size_t code_elements);
+int64_t plain_report_velocity(int64_t *quantities, size_t quantity_elements, const uint32_t *codes, size_t code_elements);
+int64_t plain_code_shape(uint32_t *codes, size_t code_elements, const int64_t *quantities, size_t quantity_elements);
+int64_t plain_code_velocity(uint32_t *codes, size_t code_elements, const int64_t *quantities, size_t quantity_elements);
+int64_t plain_choose(uint8_t *out, size_t room, const int64_t *request, size_t request_elements, uint16_t list);
+int64_t plain_code(uint32_t *code, size_t code_elements, uint8_t field, int64_t quantity);
+int64_t plain_report(int64_t *quantity, size_t quantity_elements, uint8_t field, const uint32_t *code, size_t code_elements);
 
 #endif

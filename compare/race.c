@@ -80,10 +80,10 @@ static void prepare_inputs(void)
 // ---- Works: one call for each item, the array to fill cleared before the call or not ----
 
 // A coder of uncertainties by a logarithm in floating point, as others have it, but rounded up.
-static int64_t logarithm_code(uint32_t *code, size_t code_cells, uint8_t field, int64_t radius)
+static int64_t logarithm_code(uint32_t *code, size_t code_elements, uint8_t field, int64_t radius)
 {
     (void)field;
-    if (code_cells < 1)
+    if (code_elements < 1)
         return -GAD_BUFFER_TOO_SHORT;
     code[0] = (uint32_t)ceil(log1p((double)radius / 10000) / log(1.1));
     return 1;
@@ -91,10 +91,10 @@ static int64_t logarithm_code(uint32_t *code, size_t code_cells, uint8_t field, 
 
 typedef int64_t worker(int clear);
 
-#define WORK(name, cell, cells, answer)              \
+#define WORK(name, element, elements, answer)              \
     static int64_t name(int clear)                   \
     {                                                \
-        static cell out[cells];                      \
+        static element out[elements];                      \
         int64_t sum = 0;                             \
         for (size_t i = 0; i < ITEMS; i++) {         \
             if (clear)                               \

@@ -338,8 +338,8 @@ struct wanted some_request(void)
     return wanted;
 }
 
-void put_request(uint32_t given, const int64_t value[REQUEST_FIELDS], int64_t cells[REQUEST_FIELDS])
+void put_request(uint32_t given, const int64_t value[REQUEST_FIELDS], int64_t elements[REQUEST_FIELDS])
 {
     for (uint32_t i = 0; i < REQUEST_FIELDS; i++)
-        cells[i] = given >> i & 1 ? value[i] : GAD_MISSING;
+        elements[i] = given >> i & 1 ? value[i] : GAD_MISSING;
 }

@@ -48,6 +48,6 @@ struct wanted {
 };
 
 struct wanted some_request(void);
-void put_request(uint32_t given, const int64_t value[REQUEST_FIELDS], int64_t cells[REQUEST_FIELDS]); // GAD_MISSING for what isn't given
+void put_request(uint32_t given, const int64_t value[REQUEST_FIELDS], int64_t elements[REQUEST_FIELDS]); // GAD_MISSING for what isn't given
 
 #endif

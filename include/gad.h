@@ -4,16 +4,16 @@
  * Link with libdesk.a (`rt staticlib desk`). Every function is proved to answer every call; what each of them says of the numbers in its
  * arrays is written in crates/library/specs/Promises.antt.
  *
- * ARRAYS. Each array is a pointer and, next to it, the number of its cells (octets for messages). A null pointer with length 0 is an
- * empty array.
- *   - An array that is given and has fewer cells than its layout is refused with 3 before anything else. What stands after the layout's
- *     last cell is not looked at.
+ * ARRAYS. Each array is a pointer and, next to it, the number of its elements (octets for messages). A null pointer with length 0 is
+ * an empty array; a null pointer with another length is undefined, as any pointer to less than its length is.
+ *   - An array that is given and has fewer elements than its layout is refused with 3 before anything else; in gad_report after 2, since
+ *     it is the field that says how many there are. What stands after the layout's last element is not looked at.
  *   - An array or buffer that is to be filled and has too little room is refused with 10 after everything else. What stands after the
- *     last cell that is filled keeps its value.
- *   - A refusal changes no cell and no octet.
+ *     last element that is filled keeps its value.
+ *   - A refusal changes no element and no octet.
  *   - An array that is filled may not overlap one that is given.
  *
- * ANSWERS. A function hands back how many cells or octets it put, or minus the number of its refusal:
+ * ANSWERS. A function hands back how many elements or octets it put, or minus the number of its refusal:
  */
 #ifndef GAD_H
 #define GAD_H
@@ -39,7 +39,7 @@ enum gad_refusal {
 };
 
 /*
- * CODES of a shape, 61 cells: the numbers of the message's fields. A field that the type doesn't have is 0, and so is each point after
+ * CODES of a shape, 61 elements: the numbers of the message's fields. A field that the type doesn't have is 0, and so is each point after
  * the last. A longitude is its 32 bits in two's complement: (int32_t)codes[GAD_CODE_LONGITUDE] is -8388608 to 8388607.
  */
 enum gad_shape_code {
@@ -59,12 +59,12 @@ enum gad_shape_code {
     GAD_CODE_OFFSET = 13,       /* 0 to 179 */
     GAD_CODE_INCLUDED = 14,     /* 0 to 179 */
     GAD_CODE_CONFIDENCE = 15,   /* 0 to 100, 0 for none */
-    GAD_CODE_POINTS = 16,       /* S, latitude, longitude of each of fifteen points: three cells a point */
+    GAD_CODE_POINTS = 16,       /* S, latitude, longitude of each of fifteen points: three elements a point */
     GAD_SHAPE_CODES = 61
 };
 
 /*
- * QUANTITIES of a shape, 44 cells. Nanodegrees for coordinates, millidegrees for other angles, millimetres for lengths. A quantity that
+ * QUANTITIES of a shape, 44 elements. Nanodegrees for coordinates, millidegrees for other angles, millimetres for lengths. A quantity that
  * the type doesn't have is 0 (a confidence: missing), and so is each point after the last. A quantity arrives signed in 64 bits for
  * coordinates, signed in 32 for altitude, unsigned in 32 otherwise: one that its width can't hold is refused with 7.
  */
@@ -83,14 +83,14 @@ enum gad_shape_quantity {
     GAD_OFFSET = 11,
     GAD_INCLUDED = 12,
     GAD_CONFIDENCE = 13, /* per cent, 1 to 100, or GAD_MISSING */
-    GAD_POINTS = 14,     /* latitude and longitude of each of fifteen points: two cells a point */
+    GAD_POINTS = 14,     /* latitude and longitude of each of fifteen points: two elements a point */
     GAD_SHAPE_QUANTITIES = 44
 };
 
 /* The mark of a missing confidence or uncertainty speed, and of what a request doesn't ask. */
 #define GAD_MISSING INT64_MIN
 
-/* CODES of a velocity, 7 cells. A field that the type doesn't have is 0. */
+/* CODES of a velocity, 7 elements. A field that the type doesn't have is 0. */
 enum gad_velocity_code {
     GAD_VELOCITY_CODE_TYPE = 0, /* 0 horizontal, 1 with vertical, 2 with uncertainty, 3 with both */
     GAD_VELOCITY_CODE_BEARING = 1, /* 0 to 359 */
@@ -102,7 +102,7 @@ enum gad_velocity_code {
     GAD_VELOCITY_CODES = 7
 };
 
-/* QUANTITIES of a velocity, 6 cells: millidegrees, metres per hour. One that the type doesn't have is 0. */
+/* QUANTITIES of a velocity, 6 elements: millidegrees, metres per hour. One that the type doesn't have is 0. */
 enum gad_velocity_quantity {
     GAD_VELOCITY_TYPE = 0,
     GAD_VELOCITY_BEARING = 1,
@@ -114,7 +114,7 @@ enum gad_velocity_quantity {
 };
 
 /*
- * A REQUEST for one point, 8 cells; GAD_MISSING for what is not asked. The coordinates are always asked. A circle has a semi-major alone;
+ * A REQUEST for one point, 8 elements; GAD_MISSING for what is not asked. The coordinates are always asked. A circle has a semi-major alone;
  * an ellipse has all three of semi-major, semi-minor and orientation; other combinations are refused with 7.
  */
 enum gad_request {
@@ -152,32 +152,32 @@ enum gad_field {
 enum { GAD_LONGEST_MESSAGE = 91 };
 
 /* Octets to codes: 61 or 7, or minus 1, 2, 4, 3, 5, 6, 10, the first that applies. */
-int64_t gad_read_shape(uint32_t *codes, size_t code_cells, const uint8_t *message, size_t octets);
-int64_t gad_read_velocity(uint32_t *codes, size_t code_cells, const uint8_t *message, size_t octets);
+int64_t gad_read_shape(uint32_t *codes, size_t code_elements, const uint8_t *message, size_t octets);
+int64_t gad_read_velocity(uint32_t *codes, size_t code_elements, const uint8_t *message, size_t octets);
 
 /* Codes to octets: the message's length, or minus 3 (a short array), 2, 4, 5, 6, 7, 10. */
-int64_t gad_write_shape(uint8_t *out, size_t room, const uint32_t *codes, size_t code_cells);
-int64_t gad_write_velocity(uint8_t *out, size_t room, const uint32_t *codes, size_t code_cells);
+int64_t gad_write_shape(uint8_t *out, size_t room, const uint32_t *codes, size_t code_elements);
+int64_t gad_write_velocity(uint8_t *out, size_t room, const uint32_t *codes, size_t code_elements);
 
 /* Codes to reported quantities: 44 or 6, or minus 3 (a short array), 2, 4, 5, 6, 7, 10. */
-int64_t gad_report_shape(int64_t *quantities, size_t quantity_cells, const uint32_t *codes, size_t code_cells);
-int64_t gad_report_velocity(int64_t *quantities, size_t quantity_cells, const uint32_t *codes, size_t code_cells);
+int64_t gad_report_shape(int64_t *quantities, size_t quantity_elements, const uint32_t *codes, size_t code_elements);
+int64_t gad_report_velocity(int64_t *quantities, size_t quantity_elements, const uint32_t *codes, size_t code_elements);
 
 /* Quantities to the codes of their own type: 61 or 7, or minus 3 (a short array), 2, 4, 7, 8, 10. */
-int64_t gad_code_shape(uint32_t *codes, size_t code_cells, const int64_t *quantities, size_t quantity_cells);
-int64_t gad_code_velocity(uint32_t *codes, size_t code_cells, const int64_t *quantities, size_t quantity_cells);
+int64_t gad_code_shape(uint32_t *codes, size_t code_elements, const int64_t *quantities, size_t quantity_elements);
+int64_t gad_code_velocity(uint32_t *codes, size_t code_elements, const int64_t *quantities, size_t quantity_elements);
 
 /*
  * A request to the octets of the best message of the shapes on the receiver's list, bit t of which is shape t: its length, or minus 3 (a
  * short array), 7, 8, 9, 10.
  */
-int64_t gad_choose(uint8_t *out, size_t room, const int64_t *request, size_t request_cells, uint16_t list);
+int64_t gad_choose(uint8_t *out, size_t room, const int64_t *request, size_t request_elements, uint16_t list);
 
-/* One quantity to its code: 1 cell, or 2 for S or D and N; or minus 2 (no such field), 7, 8, 10. */
-int64_t gad_code(uint32_t *code, size_t code_cells, uint8_t field, int64_t quantity);
+/* One quantity to its code: 1 element, or 2 for S or D and N; or minus 2 (no such field), 7, 8, 10. */
+int64_t gad_code(uint32_t *code, size_t code_elements, uint8_t field, int64_t quantity);
 
-/* One code to the quantity that it reports: 1 cell; or minus 2 (no such field), 3 (a short array), 5, 6, 7, 10. */
-int64_t gad_report(int64_t *quantity, size_t quantity_cells, uint8_t field, const uint32_t *code, size_t code_cells);
+/* One code to the quantity that it reports: 1 element; or minus 2 (no such field), 3 (a short array), 5, 6, 7, 10. */
+int64_t gad_report(int64_t *quantity, size_t quantity_elements, uint8_t field, const uint32_t *code, size_t code_elements);
 
 #ifdef __cplusplus
 }

@@ -36,9 +36,9 @@ def signed(n):
     return n - (1 << 24) if n >> 23 else n
 
 
-def taken_apart(cells, bits):
+def taken_apart(elements, bits):
     fields = {}
-    for name, width in cells:
+    for name, width in elements:
         part, bits = bits[:width], bits[width:]
         if name != "spare":
             fields[name] = signed(int(part, 2)) if name == "longitude" else int(part, 2)
@@ -46,8 +46,8 @@ def taken_apart(cells, bits):
     return fields
 
 
-def put_together(cells, fields):
-    return "".join(format(0 if name == "spare" else fields[name] % (1 << width), "0%db" % width) for name, width in cells)
+def put_together(elements, fields):
+    return "".join(format(0 if name == "spare" else fields[name] % (1 << width), "0%db" % width) for name, width in elements)
 
 
 def octets(bits):
@@ -55,8 +55,8 @@ def octets(bits):
     return bytes(int(bits[i:i + 8], 2) for i in range(0, len(bits), 8))
 
 
-def length_of(cells):
-    return (4 + sum(width for _, width in cells)) // 8
+def length_of(elements):
+    return (4 + sum(width for _, width in elements)) // 8
 
 
 def too_large(fields):
@@ -80,10 +80,10 @@ def read(layouts, message):
         return 0, (5, {}, [taken_apart(POINT, bits[8 + 48 * i:56 + 48 * i]) for i in range(count)])
     if kind not in layouts:
         return 2, None
-    cells = layouts[kind]
-    if len(message) != length_of(cells):
+    elements = layouts[kind]
+    if len(message) != length_of(elements):
         return 3, None
-    fields = taken_apart(cells, bits[4:])
+    fields = taken_apart(elements, bits[4:])
     answer = too_large(fields)
     return (answer, None) if answer else (0, (kind, fields, []))
 
@@ -100,14 +100,14 @@ def write(layouts, order, kind, fields, count, points, room):
     polygon = layouts is SHAPES and kind == 5
     if polygon and not 3 <= count <= 15:
         return 4, b""
-    cells = [] if polygon else layouts[kind]
-    used = {name for name, _ in cells}
+    elements = [] if polygon else layouts[kind]
+    used = {name for name, _ in elements}
     answer = too_large({name: fields[name] for name in used if name != "spare"})
     if answer:
         return answer, b""
     if any(fields[name] for name in order if name not in used):
         return 7, b""
-    if not all(in_field(name, width, fields[name]) for name, width in cells if name != "spare"):
+    if not all(in_field(name, width, fields[name]) for name, width in elements if name != "spare"):
         return 7, b""
     if not polygon and count:
         return 7, b""
@@ -117,7 +117,7 @@ def write(layouts, order, kind, fields, count, points, room):
     if not all(in_field(name, width, point[name]) for point in points[:n] for name, width in POINT):
         return 7, b""
     bits = format(kind, "04b")
-    bits += format(count, "04b") + "".join(put_together(POINT, point) for point in points[:n]) if polygon else put_together(cells, fields)
+    bits += format(count, "04b") + "".join(put_together(POINT, point) for point in points[:n]) if polygon else put_together(elements, fields)
     message = octets(bits)
     return (10, b"") if len(message) > room else (0, message)
 

@@ -1,16 +1,16 @@
-// Messages worked out by hand from document 01, with their codes and reported quantities. Cells that are not named are 0.
+// Messages worked out by hand from document 01, with their codes and reported quantities. Elements that are not named are 0.
 #ifndef GAD_SAMPLES_H
 #define GAD_SAMPLES_H
 
 #include "../../include/gad.h"
 
 struct code {
-    int cell;
+    int element;
     uint32_t value;
 };
 
 struct quantity {
-    int cell;
+    int element;
     int64_t value;
 };
 

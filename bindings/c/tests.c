@@ -18,7 +18,7 @@ static void check(int truth, const char *what, const char *about, int line)
 #define CHECK(truth, about) check(truth, #truth, about, __LINE__)
 #define COUNT(list) (sizeof(list) / sizeof((list)[0]))
 
-enum { SPACE = 96, PATTERN = 0xA5 }; // cells of every array here, more than any layout has
+enum { SPACE = 96, PATTERN = 0xA5 }; // elements of every array here, more than any layout has
 
 static void fill(void *array, size_t octets)
 {
@@ -35,9 +35,9 @@ static int kept(const void *from, size_t octets)
 }
 
 // What a call did with an array that fill() had filled: `answer` is what it should answer, and `expected` starts with what it should put.
-static void check_filled(int64_t answered, int64_t answer, const void *array, size_t octets, const void *expected, size_t cell, const char *about, int line)
+static void check_filled(int64_t answered, int64_t answer, const void *array, size_t octets, const void *expected, size_t element, const char *about, int line)
 {
-    size_t put = answer > 0 ? (size_t)answer * cell : 0;
+    size_t put = answer > 0 ? (size_t)answer * element : 0;
     check(answered == answer, "the answer", about, line);
     if (put > 0)
         check(memcmp(array, expected, put) == 0, "what it put", about, line);
@@ -69,20 +69,20 @@ static void codes_of(const struct sample *sample, uint32_t codes[SPACE])
 {
     memset(codes, 0, SPACE * sizeof codes[0]);
     for (size_t i = 0; i < sample->codes_named; i++)
-        codes[sample->codes[i].cell] = sample->codes[i].value;
+        codes[sample->codes[i].element] = sample->codes[i].value;
 }
 
 static void quantities_of(const struct sample *sample, int64_t quantities[SPACE])
 {
     memset(quantities, 0, SPACE * sizeof quantities[0]);
     for (size_t i = 0; i < sample->quantities_named; i++)
-        quantities[sample->quantities[i].cell] = sample->quantities[i].value;
+        quantities[sample->quantities[i].element] = sample->quantities[i].value;
 }
 
-// The answer of a call that fills `cells`, or finds too little room.
-static int64_t filling(size_t cells, size_t room)
+// The answer of a call that fills `elements`, or finds too little room.
+static int64_t filling(size_t elements, size_t room)
 {
-    return room < cells ? -GAD_BUFFER_TOO_SHORT : (int64_t)cells;
+    return room < elements ? -GAD_BUFFER_TOO_SHORT : (int64_t)elements;
 }
 
 // Room exactly as much, one more, and one less, for each function; a given array one too long, and one too short.
@@ -213,7 +213,7 @@ static void check_unwritable(void)
     static const struct {
         const char *name;
         int kind, sample;
-        struct code codes[3]; // changed; cell 0 with value 0 changes nothing more
+        struct code codes[3]; // changed; element 0 with value 0 changes nothing more
         int64_t refusal;
     } records[] = {
         {"type 2", SHAPE, ELLIPSE, {{GAD_CODE_TYPE, 2}, {GAD_CODE_ORIENTATION, 180}}, GAD_UNKNOWN_TYPE},
@@ -238,7 +238,7 @@ static void check_unwritable(void)
         codes_of(&kind->samples[records[i].sample], codes);
         for (size_t j = 0; j < COUNT(records[i].codes); j++)
             if (records[i].codes[j].value != 0)
-                codes[records[i].codes[j].cell] = records[i].codes[j].value;
+                codes[records[i].codes[j].element] = records[i].codes[j].value;
         CHECK(kind->write(NULL, 0, codes, kind->codes) == -records[i].refusal, records[i].name);
         CHECK(kind->report(NULL, 0, codes, kind->codes) == -records[i].refusal, records[i].name);
     }
@@ -272,7 +272,7 @@ static void check_uncodable(void)
         const struct kind *kind = &kinds[records[i].kind];
         quantities_of(&kind->samples[records[i].sample], quantities);
         for (size_t j = 0; j < COUNT(records[i].quantities); j++)
-            quantities[records[i].quantities[j].cell] = records[i].quantities[j].value;
+            quantities[records[i].quantities[j].element] = records[i].quantities[j].value;
         CHECK(kind->code(NULL, 0, quantities, kind->quantities) == -records[i].refusal, records[i].name);
     }
 }
@@ -386,7 +386,7 @@ static void check_reports(void)
 {
     static const struct {
         uint8_t field;
-        size_t cells;
+        size_t elements;
         uint32_t code[2];
         int64_t answer, quantity;
     } reports[] = {
@@ -408,9 +408,9 @@ static void check_reports(void)
         char about[64];
         snprintf(about, sizeof about, "field %u, code %u %u", (unsigned)reports[i].field, (unsigned)reports[i].code[0], (unsigned)reports[i].code[1]);
         int64_t quantity[2];
-        const uint32_t *code = reports[i].cells > 0 ? reports[i].code : NULL;
-        CHECK_FILLED(gad_report(quantity, 2, reports[i].field, code, reports[i].cells), reports[i].answer, quantity, &reports[i].quantity, about);
-        CHECK(gad_report(NULL, 0, reports[i].field, code, reports[i].cells) == without_room(reports[i].answer), about);
+        const uint32_t *code = reports[i].elements > 0 ? reports[i].code : NULL;
+        CHECK_FILLED(gad_report(quantity, 2, reports[i].field, code, reports[i].elements), reports[i].answer, quantity, &reports[i].quantity, about);
+        CHECK(gad_report(NULL, 0, reports[i].field, code, reports[i].elements) == without_room(reports[i].answer), about);
     }
 }
 

@@ -19,7 +19,7 @@
 //! # Ok::<(), gad::Refusal>(())
 //! ```
 
-mod cells;
+mod elements;
 mod library;
 mod numbers;
 mod requests;
@@ -31,7 +31,7 @@ pub use requests::{Horizontal, Request};
 pub use shapes::{Axes, AxesCodes, Place, PlaceCodes, Shape, ShapeCodes};
 pub use velocities::{Course, CourseCodes, Velocity, VelocityCodes};
 
-use cells::Record;
+use elements::Record;
 use std::fmt;
 
 /// The longest message: a polygon of fifteen points.
@@ -89,12 +89,12 @@ refusals!(
 
 impl std::error::Error for Refusal {}
 
-/// How many cells or octets a call put, or why it put none.
+/// How many elements or octets a call put, or why it put none.
 fn put_or_refused(answer: i64) -> Result<usize, Refusal> {
     usize::try_from(answer).map_err(|_| Refusal::of_number(-answer).expect("the library gives no other refusal"))
 }
 
-/// A call that is given one array and fills another: (to, room, from, cells).
+/// A call that is given one array and fills another: (to, room, from, elements).
 type ArrayCall<T, F> = unsafe extern "C" fn(*mut T, usize, *const F, usize) -> i64;
 
 /// Calls with two slices, of which the call looks at and writes no more than they hold.
@@ -105,10 +105,10 @@ fn call<T, F>(function: ArrayCall<T, F>, to: &mut [T], from: &[F]) -> Result<usi
 }
 
 /// The record that a call fills.
-fn filled<R: Record, F>(function: ArrayCall<R::Cell, F>, from: &[F]) -> Result<R, Refusal> {
-    let mut cells = R::BLANK;
-    call(function, cells.as_mut(), from)?;
-    Ok(R::from_cells(&cells))
+fn filled<R: Record, F>(function: ArrayCall<R::Element, F>, from: &[F]) -> Result<R, Refusal> {
+    let mut elements = R::BLANK;
+    call(function, elements.as_mut(), from)?;
+    Ok(R::from_elements(&elements))
 }
 
 /// Octets to codes. Refused: no octets, unknown type, polygon count, wrong length, angle code, confidence too large.
@@ -123,57 +123,57 @@ pub fn read_velocity(message: &[u8]) -> Result<VelocityCodes, Refusal> {
 
 /// Codes to octets: the message's length. Refused: polygon count, angle code, confidence too large, out of range, buffer too short.
 pub fn write_shape(codes: &ShapeCodes, out: &mut [u8]) -> Result<usize, Refusal> {
-    call(library::gad_write_shape, out, &codes.to_cells())
+    call(library::gad_write_shape, out, &codes.to_elements())
 }
 
 /// Codes to octets: the message's length. Refused: angle code, out of range, buffer too short.
 pub fn write_velocity(codes: &VelocityCodes, out: &mut [u8]) -> Result<usize, Refusal> {
-    call(library::gad_write_velocity, out, &codes.to_cells())
+    call(library::gad_write_velocity, out, &codes.to_elements())
 }
 
 /// Codes to the quantities that they report. Refused: polygon count, angle code, confidence too large, out of range.
 pub fn report_shape(codes: &ShapeCodes) -> Result<Shape, Refusal> {
-    filled(library::gad_report_shape, &codes.to_cells())
+    filled(library::gad_report_shape, &codes.to_elements())
 }
 
 /// Codes to the quantities that they report. Refused: angle code, out of range.
 pub fn report_velocity(codes: &VelocityCodes) -> Result<Velocity, Refusal> {
-    filled(library::gad_report_velocity, &codes.to_cells())
+    filled(library::gad_report_velocity, &codes.to_elements())
 }
 
 /// Quantities to the codes of their own type. Refused: polygon count, out of range, uncertainty too large.
 pub fn code_shape(shape: &Shape) -> Result<ShapeCodes, Refusal> {
-    filled(library::gad_code_shape, &shape.to_cells())
+    filled(library::gad_code_shape, &shape.to_elements())
 }
 
 /// Quantities to the codes of their own type. Refused: out of range, uncertainty too large.
 pub fn code_velocity(velocity: &Velocity) -> Result<VelocityCodes, Refusal> {
-    filled(library::gad_code_velocity, &velocity.to_cells())
+    filled(library::gad_code_velocity, &velocity.to_elements())
 }
 
 /// A request to the octets of the best message of the shapes on the receiver's list, bit t of which is shape t: the message's length, 14
 /// at most. Refused: out of range, uncertainty too large, none holds, buffer too short.
 pub fn choose(request: &Request, list: u16, out: &mut [u8]) -> Result<usize, Refusal> {
-    let cells = request.to_cells();
+    let elements = request.to_elements();
     // SAFETY: as in call().
-    put_or_refused(unsafe { library::gad_choose(out.as_mut_ptr(), out.len(), cells.as_ptr(), cells.len(), list) })
+    put_or_refused(unsafe { library::gad_choose(out.as_mut_ptr(), out.len(), elements.as_ptr(), elements.len(), list) })
 }
 
 /// One quantity to its code. Refused: out of range, uncertainty too large.
 pub fn code<C: Code>(quantity: C::Quantity) -> Result<C, Refusal> {
-    let mut cells = C::Cells::default();
-    let code = cells.as_mut();
+    let mut elements = C::Elements::default();
+    let code = elements.as_mut();
     // SAFETY: as in call().
-    put_or_refused(unsafe { library::gad_code(code.as_mut_ptr(), code.len(), C::FIELD, quantity.to_cell()) })?;
-    Ok(C::from_cells(cells))
+    put_or_refused(unsafe { library::gad_code(code.as_mut_ptr(), code.len(), C::FIELD, quantity.to_element()) })?;
+    Ok(C::from_elements(elements))
 }
 
 /// One code to the quantity that it reports. Refused: angle code, confidence too large, out of range.
 pub fn report<C: Code>(code: C) -> Result<C::Quantity, Refusal> {
-    let cells = code.to_cells();
-    let code = cells.as_ref();
+    let elements = code.to_elements();
+    let code = elements.as_ref();
     let mut quantity = 0;
     // SAFETY: as in call().
     put_or_refused(unsafe { library::gad_report(&mut quantity, 1, C::FIELD, code.as_ptr(), code.len()) })?;
-    Ok(C::Quantity::from_cell(quantity))
+    Ok(C::Quantity::from_element(quantity))
 }

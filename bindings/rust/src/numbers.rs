@@ -1,14 +1,14 @@
 //! Quantities in their units and codes in their fields. None is ever taken for another.
 
-/// The mark of what is missing, in a cell of quantities.
+/// The mark of what is missing, in an element of quantities.
 pub(crate) const MISSING: i64 = i64::MIN;
 
-/// A quantity as a cell of an array.
+/// A quantity as an element of an array.
 pub trait Quantity: Sized {
     #[doc(hidden)]
-    fn to_cell(self) -> i64;
+    fn to_element(self) -> i64;
     #[doc(hidden)]
-    fn from_cell(cell: i64) -> Self;
+    fn from_element(element: i64) -> Self;
 }
 
 macro_rules! quantities {
@@ -18,12 +18,12 @@ macro_rules! quantities {
         pub struct $name(pub $number);
 
         impl Quantity for $name {
-            fn to_cell(self) -> i64 {
+            fn to_element(self) -> i64 {
                 i64::from(self.0)
             }
 
-            fn from_cell(cell: i64) -> Self {
-                $name(cell.try_into().expect("the library keeps to the width"))
+            fn from_element(element: i64) -> Self {
+                $name(element.try_into().expect("the library keeps to the width"))
             }
         }
     )*};
@@ -47,12 +47,12 @@ quantities!(
 );
 
 impl<Q: Quantity> Quantity for Option<Q> {
-    fn to_cell(self) -> i64 {
-        self.map_or(MISSING, Q::to_cell)
+    fn to_element(self) -> i64 {
+        self.map_or(MISSING, Q::to_element)
     }
 
-    fn from_cell(cell: i64) -> Self {
-        (cell != MISSING).then(|| Q::from_cell(cell))
+    fn from_element(element: i64) -> Self {
+        (element != MISSING).then(|| Q::from_element(element))
     }
 }
 
@@ -62,13 +62,13 @@ pub trait Code: Sized {
     type Quantity: Quantity;
     #[doc(hidden)]
     const FIELD: u8;
-    /// Of one cell, or of two: the sign first.
+    /// Of one element, or of two: the sign first.
     #[doc(hidden)]
-    type Cells: AsRef<[u32]> + AsMut<[u32]> + Default;
+    type Elements: AsRef<[u32]> + AsMut<[u32]> + Default;
     #[doc(hidden)]
-    fn to_cells(self) -> Self::Cells;
+    fn to_elements(self) -> Self::Elements;
     #[doc(hidden)]
-    fn from_cells(cells: Self::Cells) -> Self;
+    fn from_elements(elements: Self::Elements) -> Self;
 }
 
 macro_rules! plain_codes {
@@ -80,13 +80,13 @@ macro_rules! plain_codes {
         impl Code for $name {
             type Quantity = $quantity;
             const FIELD: u8 = $field;
-            type Cells = [u32; 1];
+            type Elements = [u32; 1];
 
-            fn to_cells(self) -> [u32; 1] {
+            fn to_elements(self) -> [u32; 1] {
                 [self.0]
             }
 
-            fn from_cells([number]: [u32; 1]) -> Self {
+            fn from_elements([number]: [u32; 1]) -> Self {
                 $name(number)
             }
         }
@@ -130,13 +130,13 @@ macro_rules! signed_codes {
         impl Code for $name {
             type Quantity = $quantity;
             const FIELD: u8 = $field;
-            type Cells = [u32; 2];
+            type Elements = [u32; 2];
 
-            fn to_cells(self) -> [u32; 2] {
+            fn to_elements(self) -> [u32; 2] {
                 [u32::from(self.$sign), self.number]
             }
 
-            fn from_cells([sign, number]: [u32; 2]) -> Self {
+            fn from_elements([sign, number]: [u32; 2]) -> Self {
                 $name { $sign: sign != 0, number }
             }
         }
@@ -159,13 +159,13 @@ pub struct LongitudeCode(pub i32);
 impl Code for LongitudeCode {
     type Quantity = Nanodegrees;
     const FIELD: u8 = 1;
-    type Cells = [u32; 1];
+    type Elements = [u32; 1];
 
-    fn to_cells(self) -> [u32; 1] {
+    fn to_elements(self) -> [u32; 1] {
         [self.0 as u32]
     }
 
-    fn from_cells([bits]: [u32; 1]) -> Self {
+    fn from_elements([bits]: [u32; 1]) -> Self {
         LongitudeCode(bits as i32)
     }
 }

@@ -1,12 +1,12 @@
 //! Requests for one point.
 
-use crate::cells::Stored;
+use crate::elements::Stored;
 use crate::numbers::*;
 use crate::shapes::{Axes, Place};
 
 pub(crate) const REQUEST: usize = 8;
 
-/// Where each quantity stands among the cells.
+/// Where each quantity stands among the elements.
 mod ask_at {
     pub const PLACE: usize = 0;
     pub const ALTITUDE: usize = 2;
@@ -33,17 +33,17 @@ pub enum Horizontal {
 }
 
 impl Request {
-    pub(crate) fn to_cells(self) -> [i64; REQUEST] {
-        let mut cells = [MISSING; REQUEST];
-        self.place.put(&mut cells[ask_at::PLACE..]);
-        self.altitude.put(&mut cells[ask_at::ALTITUDE..]);
+    pub(crate) fn to_elements(self) -> [i64; REQUEST] {
+        let mut elements = [MISSING; REQUEST];
+        self.place.put(&mut elements[ask_at::PLACE..]);
+        self.altitude.put(&mut elements[ask_at::ALTITUDE..]);
         match self.horizontal {
-            Some(Horizontal::Circle(radius)) => radius.put(&mut cells[ask_at::AXES..]),
-            Some(Horizontal::Ellipse(axes)) => axes.put(&mut cells[ask_at::AXES..]),
+            Some(Horizontal::Circle(radius)) => radius.put(&mut elements[ask_at::AXES..]),
+            Some(Horizontal::Ellipse(axes)) => axes.put(&mut elements[ask_at::AXES..]),
             None => {}
         }
-        self.altitude_uncertainty.put(&mut cells[ask_at::ALTITUDE_UNCERTAINTY..]);
-        self.confidence.put(&mut cells[ask_at::CONFIDENCE..]);
-        cells
+        self.altitude_uncertainty.put(&mut elements[ask_at::ALTITUDE_UNCERTAINTY..]);
+        self.confidence.put(&mut elements[ask_at::CONFIDENCE..]);
+        elements
     }
 }

@@ -1,6 +1,6 @@
 //! Shapes as codes and as quantities.
 
-use crate::cells::{group, record, Record, Stored};
+use crate::elements::{group, record, Record, Stored};
 use crate::numbers::*;
 
 group! {
@@ -23,15 +23,15 @@ group! {
     Axes of i64 { semi_major: Millimetres = 0, semi_minor: Millimetres = 1, orientation: Millidegrees = 2 }
 }
 
-/// The count of a polygon's points as a cell; the library refuses every count above fifteen alike.
+/// The count of a polygon's points as an element; the library refuses every count above fifteen alike.
 fn count_of<T>(points: &[T]) -> u32 {
     u32::try_from(points.len()).unwrap_or(u32::MAX)
 }
 
-/// The seven types of shape, in codes or in quantities: for each field what it is and its first cell. Cell 1 is the count of a polygon's
-/// points, which are all that the last cells have room for.
+/// The seven types of shape, in codes or in quantities: for each field what it is and its first element. Element 1 is the count of a polygon's
+/// points, which are all that the last elements have room for.
 macro_rules! shape {
-    ($(#[$text:meta])* $name:ident of [$cell:ty; $cells:literal] {
+    ($(#[$text:meta])* $name:ident of [$element:ty; $elements:literal] {
         place: $place:ident = $place_at:literal,
         altitude: $altitude:ty = $altitude_at:literal,
         uncertainty: $uncertainty:ty = $uncertainty_at:literal,
@@ -41,15 +41,15 @@ macro_rules! shape {
         offset: $offset:ty = $offset_at:literal,
         included: $included:ty = $included_at:literal,
         confidence: $confidence:ty = $confidence_at:literal or $no_confidence:expr,
-        points: $points_at:literal by $point_cells:literal,
+        points: $points_at:literal by $point_elements:literal,
     }) => {
         record! {
             $(#[$text])*
             #[derive(Clone, Debug, PartialEq, Eq, Hash)]
-            $name of [$cell; $cells], {
-                let mut cells = [0; $cells];
-                cells[$confidence_at] = $no_confidence;
-                cells
+            $name of [$element; $elements], {
+                let mut elements = [0; $elements];
+                elements[$confidence_at] = $no_confidence;
+                elements
             };
             Point = 0 { place: $place = $place_at },
             Circle = 1 { place: $place = $place_at, uncertainty: $uncertainty = $uncertainty_at },
@@ -90,16 +90,16 @@ macro_rules! shape {
         }
 
         /// From the count on.
-        impl Stored<$cell> for Vec<$place> {
-            fn put(&self, cells: &mut [$cell]) {
-                cells[0] = count_of(self).into();
-                for (point, cells) in self.iter().zip(cells[$points_at - 1..].chunks_exact_mut($point_cells)) {
-                    point.put(cells);
+        impl Stored<$element> for Vec<$place> {
+            fn put(&self, elements: &mut [$element]) {
+                elements[0] = count_of(self).into();
+                for (point, elements) in self.iter().zip(elements[$points_at - 1..].chunks_exact_mut($point_elements)) {
+                    point.put(elements);
                 }
             }
 
-            fn take(cells: &[$cell]) -> Self {
-                cells[$points_at - 1..].chunks_exact($point_cells).take(cells[0] as usize).map(Stored::take).collect()
+            fn take(elements: &[$element]) -> Self {
+                elements[$points_at - 1..].chunks_exact($point_elements).take(elements[0] as usize).map(Stored::take).collect()
             }
         }
     };

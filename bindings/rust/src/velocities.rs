@@ -1,6 +1,6 @@
 //! Velocities as codes and as quantities.
 
-use crate::cells::{group, record, Record, Stored};
+use crate::elements::{group, record, Record, Stored};
 use crate::numbers::*;
 
 group! {
@@ -13,9 +13,9 @@ group! {
     Course of i64 { bearing: Millidegrees = 0, speed: MetresPerHour = 1 }
 }
 
-/// The four types of velocity, in codes or in quantities: for each field what it is and its first cell.
+/// The four types of velocity, in codes or in quantities: for each field what it is and its first element.
 macro_rules! velocity {
-    ($(#[$text:meta])* $name:ident of [$cell:ty; $cells:literal] {
+    ($(#[$text:meta])* $name:ident of [$element:ty; $elements:literal] {
         course: $course:ty = $course_at:literal,
         vertical: $vertical:ty = $vertical_at:literal,
         uncertainty: $uncertainty:ty = $uncertainty_at:literal,
@@ -24,7 +24,7 @@ macro_rules! velocity {
         record! {
             $(#[$text])*
             #[derive(Clone, Copy, Debug, PartialEq, Eq, Hash)]
-            $name of [$cell; $cells], [0; $cells];
+            $name of [$element; $elements], [0; $elements];
             Horizontal = 0 { course: $course = $course_at },
             WithVertical = 1 { course: $course = $course_at, vertical: $vertical = $vertical_at },
             WithUncertainty = 2 { course: $course = $course_at, uncertainty: $uncertainty = $uncertainty_at },

@@ -1,6 +1,7 @@
 -- Offset, included angle, orientation and bearing, in millidegrees.
 use Prim.Native.Nat.{ℕ, _≤_}
 use Rattle.ground.specs.Answers.{numberOf, Said, done, refused, Answer}
+use Rattle.ground.specs.Counts.{angleCodes, bearingCodes}
 use Rattle.ground.specs.Sets.{LeastOf, GreatestOf, Outside}
 use Rattle.ground.specs.declared.quantity.Millidegrees.{Millidegrees}
 use Rattle.ground.specs.declared.code.OffsetCode.{OffsetCode}
@@ -50,16 +51,16 @@ BearingCoding a = Answer (λ c. BearingSet c (a .0)) 7 (360000 ≤ a .0)
 -- ---- reports: the least angle of the set, of an included angle the greatest. 5: a code of 180 or more, of a bearing 360 or more
 
 abbrev pub OffsetReporting : OffsetCode → Said Millidegrees → Type 0
-OffsetReporting c = Answer (λ a. LeastOf (OffsetSet c) (a .0)) 5 (180 ≤ c .0)
+OffsetReporting c = Answer (λ a. LeastOf (OffsetSet c) (a .0)) 5 (angleCodes ≤ c .0)
 
 abbrev pub IncludedReporting : IncludedCode → Said Millidegrees → Type 0
-IncludedReporting c = Answer (λ a. GreatestOf (IncludedSet c) (a .0)) 5 (180 ≤ c .0)
+IncludedReporting c = Answer (λ a. GreatestOf (IncludedSet c) (a .0)) 5 (angleCodes ≤ c .0)
 
 abbrev pub OrientationReporting : OrientationCode → Said Millidegrees → Type 0
-OrientationReporting c = Answer (λ a. LeastOf (OrientationSet c) (a .0)) 5 (180 ≤ c .0)
+OrientationReporting c = Answer (λ a. LeastOf (OrientationSet c) (a .0)) 5 (angleCodes ≤ c .0)
 
 abbrev pub BearingReporting : BearingCode → Said Millidegrees → Type 0
-BearingReporting c = Answer (λ a. LeastOf (BearingSet c) (a .0)) 5 (360 ≤ c .0)
+BearingReporting c = Answer (λ a. LeastOf (BearingSet c) (a .0)) 5 (bearingCodes ≤ c .0)
 
 -- ---- what the functions answer
 

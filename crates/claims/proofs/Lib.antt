@@ -1,4 +1,5 @@
-pub mod Demand
+pub mod Demand2
+pub mod Demand3
 pub mod OneCall
 pub mod OneField
 pub mod OneRequest

@@ -1,4 +1,4 @@
--- Of one field one thing is told: a number is of one field or none, a element says one quantity or none, and a code's elements one code
+-- Of one field one thing is told: a number is of one field or none, an element says one quantity or none, and a code's elements one code
 -- or none.
 use Prim.Native.Nat.{ℕ, _≤_}
 use mathlib.Core.Path.{_≡_, sym, ap, subst, _∙_}
@@ -28,7 +28,7 @@ use Rattle.claims.proofs.OneRequest.{byNumber, confidenceIn}
 field-one : {n : ℕ} (f g : Field) → placeOf f ≡ n → placeOf g ≡ n → f ≡ g
 field-one f g d e = place-one f g (d ∙ sym e)
 
--- ---- the quantity in a element
+-- ---- the quantity in an element
 
 natural-one : {z : ℤ} {n m : ℕ} → IsNatural z n → IsNatural z m → n ≡ m
 natural-one s t = cc

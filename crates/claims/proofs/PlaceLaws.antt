@@ -1,15 +1,16 @@
 -- ONE ARGUMENT over the places of any record, from the laws of their fields: what is reported and what is coded is one thing,
 -- and codes that are reported and coded again are those codes.
-use Prim.Native.Nat.{ℕ, _≤_}
-use mathlib.Core.Path.{_≡_, refl, sym, _∙_}
+use Prim.Native.Nat.{ℕ, _+_, _≤_, _<_}
+use mathlib.Core.Path.{_≡_, refl, ap, sym, _∙_}
 use mathlib.Core.List.{List}
 use native.Mathlib.Omega.{arith}
-use Rattle.ground.specs.Answers.{done, refused, met}
+use Rattle.ground.specs.Answers.{done, refused, met, unmet}
+use Rattle.ground.specs.declared.code.UncertaintyCode.{UncertaintyCode}
 use Rattle.ground.proofs.AnswerLaws.{unless-one, said-one, done-not-refused}
 use Rattle.radii.proofs.CoverLaws.{covers-up}
 use Rattle.fields.specs.Fields.{Coding}
 use Rattle.fields.proofs.OneAnswer.{coding-one, reporting-one}
-use Rattle.fields.proofs.Kept.{kept}
+use Rattle.fields.proofs.Kept.{covering-rises, kept}
 use Rattle.layout.specs.Layout.{Row}
 use Rattle.layout.specs.Layout as layout
 use Rattle.layout.specs.Demands.{TypeKnown, Used, CountSound}
@@ -65,3 +66,18 @@ module _ (rows : List Row) where
           (met counted
           (met (record { used = λ p. never p 7; unused = reported .unused; uncounted = uncounted; axes = axes })
           (met (record { used = λ p. never p 8 }) refl)))
+
+    module _ (together : Used rows layout.semiMinor → Used rows layout.semiMajor) (exchanged : code semiMajor .0 < code semiMinor .0) where
+      -- a code that is above another reports more
+      axes-not : quantity semiMinor .0 ≤ quantity semiMajor .0 → ⊥
+      axes-not h =
+          by-use rows layout.semiMinor ⊥
+          (λ u.
+          let minor = reported .used semiMinor u in
+          let major = reported .used semiMajor (together u) in
+          let more = minor .greatest (quantity semiMajor .0 + 1) (covering-rises 10000 11 10 (omega arith) (omega arith) (code semiMajor .0) (code semiMinor .0) (quantity semiMajor .0) exchanged (major .covered)) in
+          omega arith)
+          (λ e. omega (arith, ap (λ (c : UncertaintyCode). c .0) (zeros semiMinor e)))
+
+      pub answer-exchanged : (n : ℕ) → TypeKnown rows → CountSound rows (λ f. n) → CodeAnswer rows n quantity 7
+      answer-exchanged n listed counted = met listed (met counted (unmet (λ k. axes-not (k .axes)) refl))

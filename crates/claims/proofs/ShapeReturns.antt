@@ -1,11 +1,12 @@
 -- ONE ANSWER of reporting and coding a shape, and THE TRIP: a record that can be reported and whose semi-minor code is not above
 -- its semi-major, reported and coded by its own type, is that record, however often; so, written, its own octets.
-use Prim.Native.Nat.{ℕ, zero, suc, _≤_}
+use Prim.Native.Nat.{ℕ, zero, suc, _≤_, _<_}
 use mathlib.Core.Path.{_≡_, sym, subst, _∙_}
 use mathlib.Core.List.{List, _++_}
 use native.Mathlib.Omega.{arith}
 use lib.ListN.{length, drop}
 use lib.Seq.{ext-getD}
+use Rattle.ground.specs.Answers.{outcomeNumber}
 use Rattle.ground.specs.declared.refusals.Outcome.{Outcome}
 use Rattle.ground.specs.declared.refusals.Outcome.the-variants.{Done, Refused}
 use Rattle.ground.proofs.AnswerLaws.{outcome-one}
@@ -17,12 +18,11 @@ use Rattle.layout.specs.declared.shape.ShapeRead.{ShapeRead}
 use Rattle.layout.specs.Layout.{Row, shapeRows}
 use Rattle.layout.specs.Layout as layout
 use Rattle.layout.specs.Rows.{lengthOf, spareZero}
-use Rattle.layout.specs.Demands.{Used}
-use Rattle.layout.specs.Shapes.{rowsIn, rowsOf, valueOf, zeroLatitude, zeroLongitude, blankShape, ReadsShape, WritesShape}
+use Rattle.layout.specs.Demands.{Used, CountSound, Sound}
+use Rattle.layout.specs.Shapes.{rowsIn, rowsOf, valueOf, zeroLatitude, zeroLongitude, blankShape, ReadsShape, WritesShape, Fifteen}
 use Rattle.layout.proofs.KindLaws.{fixed-width}
-use Rattle.layout.proofs.DemandLaws.{Sound, sound}
+use Rattle.layout.proofs.DemandLaws.{sound}
 use Rattle.layout.proofs.OneMessage.{write-answer-one}
-use Rattle.layout.proofs.ShapeRecords.{Fifteen}
 use Rattle.layout.proofs.ShapeTrips.{shape-taken, shape-accepted, shape-whole, shape-again}
 use Rattle.quantities.specs.declared.shape.ShapeQuantities.{ShapeQuantities}
 use Rattle.quantities.specs.declared.shape.ShapeReported.{ShapeReported}
@@ -46,7 +46,7 @@ use Rattle.quantities.specs.Promises.{EachCoded, CodeAnswer, Given}
 use Rattle.quantities.specs.Shapes.{codeAt, quantityAt, zeroDegrees, noShape, QuantitiesOf, ReportsShape, quantityRows, RecordOf, CodesShape, TakesShape}
 use Rattle.quantities.proofs.UnusedLaws.{no-number, unused-code}
 use Rattle.claims.specs.Travels.{ShapeTravels, stays, goes, AxesInOrder}
-use Rattle.claims.proofs.PlaceLaws.{reported-same, coded-same, code-answer-one, coded-back, answer-back}
+use Rattle.claims.proofs.PlaceLaws.{reported-same, coded-same, code-answer-one, coded-back, answer-back, answer-exchanged}
 
 -- ---- a record is told by its codes, and quantities by theirs
 
@@ -131,19 +131,41 @@ together shape.AltitudePoint n u = u
 together shape.AltitudeEllipsoid n u = omega arith
 together shape.Arc n u = u
 
-module _ (x : Shape) (can : TakesShape x) (order : AxesInOrder x) (fifteen : Fifteen x) where
+module _ (x : Shape) (can : TakesShape x) where
   can-sound : Sound (rowsOf x) (valueOf x)
   can-sound = sound (rowsOf x) (valueOf x) (lengthOf (rowsOf x)) can .0
 
+  -- it is reported
+  reports-own : (r : ShapeReported) → ReportsShape x r → QuantitiesOf x (r .quantities)
+  reports-own r p =
+      let done : r .outcome ≡ Done = outcome-one (r .outcome) Done (write-answer-one (rowsOf x) (valueOf x) (lengthOf (rowsOf x)) _ 0 (p .answer) can) in
+      subst (λ (o : Outcome). Given o (QuantitiesOf x (r .quantities)) (r .quantities ≡ noShape)) done (p .quantities)
+
+  -- the answer to its quantities, from the answer by its own rows
+  own-answer : (q : ShapeQuantities) → QuantitiesOf x q → (m : ℕ) → CodeAnswer (rowsOf x) (x .count) (quantityAt q) m → CodeAnswer (quantityRows q) (q .count) (quantityAt q) m
+  own-answer q reported m h =
+      subst (λ (k : Kind). CodeAnswer (shapeRows k (q .count)) (q .count) (quantityAt q) m) (sym (reported .kinds))
+      (subst (λ (n : ℕ). CodeAnswer (shapeRows (x .kind) n) n (quantityAt q) m) (sym (reported .counts)) h)
+
+  counted : CountSound (rowsOf x) (λ f. x .count)
+  counted = record { least = can-sound .counted .least; most = can-sound .counted .most }
+
+  -- OTHERWISE: where the semi-minor code is above the semi-major, its quantities are refused with 7
+  pub axes-exchanged : x .«semi_major» .0 < x .«semi_minor» .0 → (r : ShapeReported) (c : ShapeCoded) → ReportsShape x r → CodesShape (r .quantities) c → outcomeNumber (c .outcome) ≡ 7
+  axes-exchanged exchanged r c p s =
+      let q = r .quantities in
+      let reported = reports-own r p in
+      code-answer-one (quantityRows q) (q .count) (quantityAt q) _ 7 (s .answer)
+      (own-answer q reported 7
+      (answer-exchanged (rowsOf x) (codeAt x) (quantityAt q) (reported .each) (unused-code x (can-sound .fields)) (together (x .kind) (x .count)) exchanged (x .count) (can-sound .listed) counted))
+
+module _ (x : Shape) (can : TakesShape x) (order : AxesInOrder x) (fifteen : Fifteen x) where
   module _ (q : ShapeQuantities) (reported : QuantitiesOf x q) where
     answer : CodeAnswer (quantityRows q) (q .count) (quantityAt q) 0
     answer =
-        subst (λ (k : Kind). CodeAnswer (shapeRows k (q .count)) (q .count) (quantityAt q) 0) (sym (reported .kinds))
-        (subst (λ (n : ℕ). CodeAnswer (shapeRows (x .kind) n) n (quantityAt q) 0) (sym (reported .counts))
-        (answer-back (rowsOf x) (codeAt x) (quantityAt q) (reported .each) (unused-code x (can-sound .fields)) (together (x .kind) (x .count)) order (x .count)
-        (can-sound .listed)
-        (record { least = can-sound .counted .least; most = can-sound .counted .most })
-        (no-number (rowsOf x) (valueOf x) (can-sound .fields) layout.count)))
+        own-answer x can q reported 0
+        (answer-back (rowsOf x) (codeAt x) (quantityAt q) (reported .each) (unused-code x (can-sound x can .fields)) (together (x .kind) (x .count)) order (x .count)
+        (can-sound x can .listed) (counted x can) (no-number (rowsOf x) (valueOf x) (can-sound x can .fields) layout.count))
 
     rows-same : quantityRows q ≡ rowsOf x
     rows-same = λ j. shapeRows (reported .kinds j) (reported .counts j)
@@ -151,14 +173,13 @@ module _ (x : Shape) (can : TakesShape x) (order : AxesInOrder x) (fifteen : Fif
     record-back : (y : Shape) → RecordOf q y → y ≡ x
     record-back y a =
         same-shape y x (a .kinds ∙ reported .kinds) (a .counts ∙ reported .counts) (whole q y a) fifteen
-        (coded-back (rowsOf x) (codeAt x) (quantityAt q) (reported .each) (unused-code x (can-sound .fields)) (codeAt y)
+        (coded-back (rowsOf x) (codeAt x) (quantityAt q) (reported .each) (unused-code x (can-sound x can .fields)) (codeAt y)
         (subst (λ (rows : List Row). EachCoded rows (quantityAt q) (codeAt y)) rows-same (a .each)))
 
   -- reported and coded, it is that record
   pub shape-returns : (r : ShapeReported) (c : ShapeCoded) → ReportsShape x r → CodesShape (r .quantities) c → (c .outcome ≡ Done) × (c .shape ≡ x)
   shape-returns r c p s =
-      let reports : r .outcome ≡ Done = outcome-one (r .outcome) Done (write-answer-one (rowsOf x) (valueOf x) (lengthOf (rowsOf x)) _ 0 (p .answer) can) in
-      let reported : QuantitiesOf x (r .quantities) = subst (λ (o : Outcome). Given o (QuantitiesOf x (r .quantities)) (r .quantities ≡ noShape)) reports (p .quantities) in
+      let reported = reports-own x can r p in
       let codes : c .outcome ≡ Done = outcome-one (c .outcome) Done (code-answer-one (quantityRows (r .quantities)) (r .quantities .count) (quantityAt (r .quantities)) _ 0 (s .answer) (answer (r .quantities) reported)) in
       let made : RecordOf (r .quantities) (c .shape) = subst (λ (o : Outcome). Given o (RecordOf (r .quantities) (c .shape)) (c .shape ≡ blankShape shape.Nothing)) codes (s .shape) in
       (codes, record-back (r .quantities) reported (c .shape) made)

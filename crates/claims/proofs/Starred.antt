@@ -1,7 +1,7 @@
 -- The starred bench figures hold.
 use mathlib.Core.Path.{_≡_, refl, subst}
 use mathlib.Core.Bool.{true, false}
-use mathlib.Core.List.{List}
+use mathlib.Core.List.{List, [], _∷_, _++_}
 use Prim.Native.Nat.{ℕ, _*_, _-_, _^_, _≤_}
 use native.Mathlib.Nat.{not-le-of-lt}
 use native.Mathlib.Omega.{arith}
@@ -28,7 +28,7 @@ use Rattle.requests.proofs.CodedLaws.{coded-never}
 use Rattle.requests.proofs.TameLaws.{tame}
 use Rattle.requests.proofs.FoundLaws.{able-circle, able-ellipse, circle-best, ellipse-best}
 use Rattle.requests.proofs.BestLaws.{best-of-kinds}
-use Rattle.claims.specs.Figures.{chooses, FigureHolds, asking, Figures}
+use Rattle.claims.specs.Figures.{Figure, chooses, FigureHolds, Each, asking, latitudes, longitudes, radii, heights, angles, speeds, Starred}
 
 -- the least code, where it is written out and is not 0, by two comparisons
 least-at : (scale num den R K : ℕ) → T (leb den num) → T (leb K 127) → T (leb (R * den ^ K) (scale * (num ^ K - den ^ K))) → T (ltb (scale * (num ^ (K - 1) - den ^ (K - 1))) (R * den ^ (K - 1))) → LeastCode (Covers scale num den) 127 R K
@@ -96,14 +96,17 @@ round = circle-best (wanted 20) (Listed 10) refl refl (able-circle (wanted 20) r
 tighter : BestKind (wanted 19) (Listed 10) Ellipse
 tighter = ellipse-best (wanted 19) (Listed 10) refl refl (able-ellipse (wanted 19) refl refl refl) refl (λ a t. omega arith)
 
-pub starred : Figures
+joined : (xs ys : List Figure) → Each xs → Each ys → Each (xs ++ ys)
+joined [] ys a b = b
+joined (x ∷ xs) ys a b = (a .0, joined xs ys (a .1) b)
+
+pub starred : Starred
 unfolding fromComplement
-starred = (
-  search each,
-  search each,
-  search each,
-  search each,
-  search each,
-  search each,
-  (chosen 51160 20 (omega arith) (search each) Circle _ round refl, (chosen 51159 19 (omega arith) (search each) Ellipse _ tighter refl, tt)),
-)
+starred =
+    joined latitudes _ (search each)
+    (joined longitudes _ (search each)
+    (joined radii _ (search each)
+    (joined heights _ (search each)
+    (joined angles _ (search each)
+    (joined speeds _ (search each)
+    (chosen 51160 20 (omega arith) (search each) Circle _ round refl, (chosen 51159 19 (omega arith) (search each) Ellipse _ tighter refl, tt)))))))

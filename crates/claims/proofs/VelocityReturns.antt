@@ -15,9 +15,9 @@ use Rattle.layout.specs.declared.velocity.VelocityRead.{VelocityRead}
 use Rattle.layout.specs.Layout.{velocityRows}
 use Rattle.layout.specs.Layout as layout
 use Rattle.layout.specs.Rows.{lengthOf, spareZero}
-use Rattle.layout.specs.Demands.{Used}
+use Rattle.layout.specs.Demands.{Used, Sound}
 use Rattle.layout.specs.Velocities.{velocityRowsIn, velocityValueOf, blankVelocity, ReadsVelocity, WritesVelocity}
-use Rattle.layout.proofs.DemandLaws.{Sound, sound}
+use Rattle.layout.proofs.DemandLaws.{sound}
 use Rattle.layout.proofs.OneMessage.{write-answer-one}
 use Rattle.layout.proofs.WidthLaws.{velocity-width}
 use Rattle.layout.proofs.VelocityTrips.{velocity-taken, velocity-accepted, velocity-again}

@@ -43,7 +43,7 @@ abbrev degrees : ℤ → Nanodegrees
 degrees x = record { 0 = x }
 
 -- n below zero: `negsuc k` is -(k + 1)
-abbrev latitudes : List Figure
+abbrev pub latitudes : List Figure
 latitudes =
     codes latitude (degrees (pos 10728)) (north 0)
     ∷ codes latitude (degrees (pos 10729)) (north 1)
@@ -54,7 +54,7 @@ latitudes =
     ∷ reports latitude (south 0) (degrees (negsuc 0))
     ∷ []
 
-abbrev longitudes : List Figure
+abbrev pub longitudes : List Figure
 longitudes =
     codes longitude (degrees (negsuc 21456)) (record { 0 = negsuc 0 })
     ∷ codes longitude (degrees (negsuc 21457)) (record { 0 = negsuc 1 })
@@ -64,7 +64,7 @@ longitudes =
 abbrev radius : ℕ → ℕ → Figure
 radius R K = codes uncertainty (record { 0 = R }) (record { 0 = K })
 
-abbrev radii : List Figure
+abbrev pub radii : List Figure
 radii =
     radius 57274 20
     ∷ radius 57275 21
@@ -79,17 +79,17 @@ radii =
 abbrev height : ℕ → ℕ → Figure
 height R K = codes altitudeUncertainty (record { 0 = R }) (record { 0 = K })
 
-abbrev heights : List Figure
+abbrev pub heights : List Figure
 heights = height 1125 1 ∷ height 1126 2 ∷ height 2278 2 ∷ height 2279 3 ∷ []
 
-abbrev angles : List Figure
+abbrev pub angles : List Figure
 angles =
     codes included (record { 0 = 2000 }) (record { 0 = 0 })
     ∷ codes included (record { 0 = 2001 }) (record { 0 = 1 })
     ∷ codes offset (record { 0 = 2000 }) (record { 0 = 1 })
     ∷ []
 
-abbrev speeds : List Figure
+abbrev pub speeds : List Figure
 speeds =
     codes horizontalSpeed (record { 0 = 499 }) (record { 0 = 0 })
     ∷ codes horizontalSpeed (record { 0 = 500 }) (record { 0 = 1 })
@@ -109,12 +109,15 @@ asking S = record {
 }
 
 -- the list {1, 3} is 2 + 8
-abbrev choices : List Figure
+abbrev pub choices : List Figure
 choices =
     chooses (asking 51160) 10 (0x10 ∷ 0x40 ∷ 0x00 ∷ 0x00 ∷ 0xC0 ∷ 0x00 ∷ 0x00 ∷ 0x14 ∷ [])
     ∷ chooses (asking 51159) 10 (0x30 ∷ 0x40 ∷ 0x00 ∷ 0x00 ∷ 0xC0 ∷ 0x00 ∷ 0x00 ∷ 0x14 ∷ 0x13 ∷ 0x1E ∷ 0x00 ∷ [])
     ∷ []
 
--- the one claim
-abbrev pub Figures : Type 0
-Figures = Each latitudes × Each longitudes × Each radii × Each heights × Each angles × Each speeds × Each choices
+-- the one list, and the one claim
+abbrev pub figures : List Figure
+figures = latitudes ++ longitudes ++ radii ++ heights ++ angles ++ speeds ++ choices
+
+abbrev pub Starred : Type 0
+Starred = Each figures

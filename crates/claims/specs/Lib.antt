@@ -1,3 +1,4 @@
-pub mod Demand
+pub mod Demand2
+pub mod Demand3
 pub mod Figures
 pub mod Travels

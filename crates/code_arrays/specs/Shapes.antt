@@ -1,11 +1,11 @@
--- A SHAPE'S CODES IN 61 CELLS.
+-- A SHAPE'S CODES IN 61 ELEMENTS.
 use mathlib.Core.Path.{_≡_}
 use mathlib.Core.List.{List, [], _∷_, _++_}
 use Prim.Native.Nat.{ℕ, zero, suc, _+_, _*_, _≤_}
 use lib.ListN.{getD, take, replicate}
 use Rattle.ground.specs.declared.code.LatitudeCode.{LatitudeCode}
 use Rattle.ground.specs.declared.code.LongitudeCode.{LongitudeCode}
-use Rattle.octets.specs.Codes.{bitOf, signOf, complement}
+use Rattle.octets.specs.Codes.{bitOf, complement}
 use Rattle.layout.specs.declared.shape.Kind.{Kind}
 use Rattle.layout.specs.declared.shape.Shape.{Shape}
 use Rattle.layout.specs.Layout.{
@@ -36,7 +36,7 @@ use Rattle.layout.specs.Layout.{
   shapeRows,
   typeOf,
 }
-use Rattle.layout.specs.Shapes.{kindOf, latitudeOf, longitudeOf, shapeOf, zeroLatitude, zeroLongitude}
+use Rattle.layout.specs.Shapes.{kindOf, shapeWith, shapeOf, zeroLatitude, zeroLongitude}
 use Rattle.code_arrays.specs.CodeNumbers.{elementAt, fromBits, bitsOf}
 
 -- ---- THE LAYOUT
@@ -132,21 +132,4 @@ recordIn elements = shapeOf (arrayKind elements) (valueIn elements)
 
 -- its outline: the record but for its points
 abbrev pub outlineIn : List ℕ → Shape
-outlineIn elements = record {
-  kind = arrayKind elements;
-  latitude = latitudeOf (valueIn elements) 0;
-  longitude = longitudeOf (valueIn elements) 0;
-  altitude = record { 0 = signOf (valueIn elements depth); 1 = valueIn elements altitude };
-  uncertainty = record { 0 = valueIn elements uncertainty };
-  «semi_major» = record { 0 = valueIn elements semiMajor };
-  «semi_minor» = record { 0 = valueIn elements semiMinor };
-  orientation = record { 0 = valueIn elements orientation };
-  «altitude_uncertainty» = record { 0 = valueIn elements altitudeUncertainty };
-  confidence = record { 0 = valueIn elements confidence };
-  «inner_radius» = record { 0 = valueIn elements innerRadius };
-  offset = record { 0 = valueIn elements offset };
-  included = record { 0 = valueIn elements included };
-  count = 0;
-  latitudes = replicate 15 zeroLatitude;
-  longitudes = replicate 15 zeroLongitude;
-}
+outlineIn elements = shapeWith (arrayKind elements) (valueIn elements) 0 (replicate 15 zeroLatitude) (replicate 15 zeroLongitude)

@@ -2,6 +2,7 @@
 use mathlib.Core.Path.{_≡_}
 use Prim.Native.Nat.{ℕ, _≤_}
 use Rattle.ground.specs.Answers.{numberOf, Said, done, refused, Answer}
+use Rattle.ground.specs.Counts.{confidenceCodes}
 use Rattle.ground.specs.Sets.{Outside}
 use Rattle.ground.specs.declared.quantity.Confidence.{Confidence}
 use Rattle.ground.specs.declared.quantity.Confidence.the-variants.{PerCent, Missing}
@@ -30,7 +31,7 @@ abbrev pub ConfidenceCoding : Confidence → Said ConfidenceCode → Type 0
 ConfidenceCoding q = Answer (λ c. ConfidenceSet c q) 7 (NoPerCent q)
 
 abbrev pub ConfidenceReporting : ConfidenceCode → Said Confidence → Type 0
-ConfidenceReporting c = Answer (ConfidenceSet c) 6 (101 ≤ c .0)
+ConfidenceReporting c = Answer (ConfidenceSet c) 6 (confidenceCodes ≤ c .0)
 
 abbrev pub saidConfidenceCode : ConfidenceCoded → Said ConfidenceCode
 saidConfidenceCode (coded.Code c) = done c

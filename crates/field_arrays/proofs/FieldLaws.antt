@@ -1,4 +1,4 @@
--- A quantity in a element is of its field's width or of none, and a code's elements say one code or none.
+-- A quantity in an element is of its field's width or of none, and a code's elements say one code or none.
 use mathlib.Core.Path.{_≡_, refl, ap}
 use mathlib.Core.List.{List}
 use Prim.Native.Nat.{ℕ, _≤_, _<_}
@@ -30,7 +30,7 @@ use Rattle.code_arrays.specs.QuantityNumbers.{missing, Natural32, naturalOf, Si
 use Rattle.code_arrays.proofs.NumberLaws.{natural-is}
 use Rattle.field_arrays.specs.Fields.{IsNatural, IsSigned, IsUncertaintySpeed, IsConfidence, CodesElement, outside, coded, CodesNatural, ReportsElements, too-short, no-code, reported, ReportsByte, ReportsWord, ReportsSigned}
 
--- ---- a quantity in a element
+-- ---- a quantity in an element
 
 pub natural-at : (z : ℤ) → Natural32 z → IsNatural z (naturalOf z)
 natural-at (pos n) h = record { number = ap pos (natural-is (pos n) h); fits = h }

@@ -17,7 +17,7 @@ ghost use Rattle.fields.specs.Fields.{altitude, verticalSpeed, uncertaintySpeed
 ghost use mathlib.Core.List.{[], _∷_};
 ghost use Rattle.ground.specs.declared.refusals.Outcome.the-variants.{Done};
 
-// The code of the quantity in a element. One that doesn't arrive in its width is out of range; there is no field from 14 on.
+// The code of the quantity in an element. One that doesn't arrive in its width is out of range; there is no field from 14 on.
 pub fn coded(field: u8, quantity: Whole) -> Told
     ensures { λ r. ⌜ CodesField field (quantity .0) r ⌝ }
 {

@@ -1,13 +1,12 @@
 -- What is reported of a record, its points aside.
 use mathlib.Core.Path.{_≡_}
-use Prim.Native.Nat.{_<_}
 use lib.ListN.{replicate}
-use lib.Signed.{mag}
 use Rattle.ground.specs.Answers.{done}
 use Rattle.ground.specs.declared.code.IncludedCode.{IncludedCode}
 use Rattle.ground.specs.declared.quantity.Millidegrees.{Millidegrees}
 use Rattle.fields.specs.Fields.{Reporting}
 use Rattle.fields.specs.Fields as field
+use Rattle.fields.specs.Quantities.{Held}
 use Rattle.layout.specs.declared.shape.Kind.{Kind}
 use Rattle.layout.specs.declared.shape.Shape.{Shape}
 use Rattle.layout.specs.Layout.{shapeRows}
@@ -19,17 +18,17 @@ use Rattle.quantities.specs.Shapes.{zeroDegrees}
 
 -- each code is one that its field holds
 pub record OutlineHeld (x : Shape) : Type 0 where
-  pub latitudes : x .latitude .1 < 8388608
-  pub longitudes : mag (x .longitude .0) < 8388608
-  pub altitudes : x .altitude .1 < 32768
-  pub uncertainties : x .uncertainty .0 < 128
-  pub semi-majors : x .«semi_major» .0 < 128
-  pub semi-minors : x .«semi_minor» .0 < 128
-  pub orientations : x .orientation .0 < 180
-  pub altitude-uncertainties : x .«altitude_uncertainty» .0 < 128
-  pub confidences : x .confidence .0 < 101
-  pub offsets : x .offset .0 < 180
-  pub includeds : x .included .0 < 180
+  pub latitudes : Held field.latitude (x .latitude)
+  pub longitudes : Held field.longitude (x .longitude)
+  pub altitudes : Held field.altitude (x .altitude)
+  pub uncertainties : Held field.uncertainty (x .uncertainty)
+  pub semi-majors : Held field.uncertainty (x .«semi_major»)
+  pub semi-minors : Held field.uncertainty (x .«semi_minor»)
+  pub orientations : Held field.orientation (x .orientation)
+  pub altitude-uncertainties : Held field.altitudeUncertainty (x .«altitude_uncertainty»)
+  pub confidences : Held field.confidence (x .confidence)
+  pub offsets : Held field.offset (x .offset)
+  pub includeds : Held field.included (x .included)
 
 -- what is reported in a kind that uses it, and zero in one that doesn't
 pub record IncludedReported (k : Kind) (c : IncludedCode) (a : Millidegrees) : Type 0 where

@@ -53,7 +53,7 @@ column orientation c x p = ap (λ (q : Millidegrees). q .0) (quantity-is orienta
 column bearing c x p = ap (λ (q : Millidegrees). q .0) (quantity-is bearing c x (omega (arith, p .member .code)) p)
 column horizontalSpeed c x p = p .speed
 column verticalSpeed c x p = p .speed
-column uncertaintySpeed c (uncertain.Speed s) p = le-antisymm (p .covered .within) (p .greatest (1000 * c .0) (record { within = omega arith }))
+column uncertaintySpeed c (uncertain.Speed s) p = (p .code, le-antisymm (p .covered .within) (p .greatest (1000 * c .0) (record { within = omega arith })))
 column uncertaintySpeed c uncertain.Missing p = p
-column confidence c (confident.PerCent n) p = sym (p .itself)
+column confidence c (confident.PerCent n) p = (omega (arith, p .itself, p .least), omega (arith, p .itself, p .most), sym (p .itself))
 column confidence c confident.Missing p = p

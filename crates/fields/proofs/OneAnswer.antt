@@ -6,6 +6,7 @@ use native.Mathlib.Omega.{arith}
 use lib.IntN.{ℤ}
 use Rattle.ground.specs.Answers.{Said}
 use Rattle.ground.proofs.AnswerLaws.{one-answer}
+use Rattle.ground.proofs.SetLaws.{not-inside}
 use Rattle.ground.specs.Steps.{OpenStep, SpeedStep}
 use Rattle.ground.specs.declared.code.UncertaintySpeedCode.{UncertaintySpeedCode}
 use Rattle.ground.specs.declared.code.ConfidenceCode.{ConfidenceCode}
@@ -52,14 +53,14 @@ coding-one altitudeUncertainty x = one-answer _ 8 _ (λ c d p q. ap (λ (n : ℕ
 coding-one altitude x = one-answer _ 0 _ (λ c d p q. signed-one (λ (s : Bool) (N : ℕ). record { 0 = s; 1 = N }) (OpenStep 1000 32767) (open-one 1000 32767) p q) (λ c p h. h)
 coding-one innerRadius x = one-answer _ 0 _ (λ c d p q. ap (λ (n : ℕ). record { 0 = n }) (open-one 5000 65535 (c .0) (d .0) (x .0) p q)) (λ c p h. h)
 coding-one offset x = one-answer _ 7 _ (λ c d p q. ap (λ (n : ℕ). record { 0 = n }) (step-one 2000 179 (c .0) (d .0) (x .0) p q)) (λ c p h. omega arith)
-coding-one included x = one-answer _ 7 _ (λ c d p q. ap (λ (n : ℕ). record { 0 = n }) (upper-one 2000 179 (c .0) (d .0) (x .0) p q)) (λ c p h. omega (arith, h (omega arith)))
+coding-one included x = one-answer _ 7 _ (λ c d p q. ap (λ (n : ℕ). record { 0 = n }) (upper-one 2000 179 (c .0) (d .0) (x .0) p q)) (λ c p h. not-inside h (omega arith) (omega arith))
 coding-one orientation x = one-answer _ 7 _ (λ c d p q. ap (λ (n : ℕ). record { 0 = n }) (step-one 1000 179 (c .0) (d .0) (x .0) p q)) (λ c p h. omega arith)
 coding-one bearing x = one-answer _ 7 _ (λ c d p q. ap (λ (n : ℕ). record { 0 = n }) (step-one 1000 359 (c .0) (d .0) (x .0) p q)) (λ c p h. omega arith)
 coding-one horizontalSpeed x = one-answer _ 0 _ (λ c d p q. ap (λ (n : ℕ). record { 0 = n }) (speed-one 65535 (c .0) (d .0) (x .0) p q)) (λ c p h. h)
 coding-one verticalSpeed x = one-answer _ 0 _ (λ c d p q. signed-one (λ (s : Bool) (N : ℕ). record { 0 = s; 1 = N }) (SpeedStep 255) (speed-one 255) p q) (λ c p h. h)
 coding-one uncertaintySpeed (Speed s) = one-answer _ 8 _ (λ c d p q. ap (λ (n : ℕ). record { 0 = n }) (least-code-one p q)) (λ c p h. h (record { within = omega (arith, p .covered .within) }))
 coding-one uncertaintySpeed uncertain.Missing = one-answer _ 8 _ (λ c d p q. ap (λ (n : ℕ). record { 0 = n }) (p ∙ sym q)) (λ c p h. h)
-coding-one confidence (PerCent n) = one-answer _ 7 _ (λ c d p q. ap (λ (n : ℕ). record { 0 = n }) (p .itself ∙ sym (q .itself))) (λ c p h. omega (arith, h (p .least)))
+coding-one confidence (PerCent n) = one-answer _ 7 _ (λ c d p q. ap (λ (n : ℕ). record { 0 = n }) (p .itself ∙ sym (q .itself))) (λ c p h. not-inside h (p .least) (p .most))
 coding-one confidence confident.Missing = one-answer _ 7 _ (λ c d p q. ap (λ (n : ℕ). record { 0 = n }) (p ∙ sym q)) (λ c p h. h)
 
 pub reporting-one : (f : Field) (c : CodeOf f) (a b : Said (QuantityOf f)) → Reporting f c a → Reporting f c b → a ≡ b

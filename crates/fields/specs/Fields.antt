@@ -1,6 +1,6 @@
 -- Document 01's table: what each field's codes and quantities are, and what coding and reporting promise.
 use Prim.Native.Nat.{_<_}
-use Rattle.ground.specs.Answers.{Said, done, Answer, Always}
+use Rattle.ground.specs.Answers.{Said, done, refused, Answer, Always}
 use Rattle.ground.specs.declared.quantity.Nanodegrees.{Nanodegrees}
 use Rattle.ground.specs.declared.quantity.Millidegrees.{Millidegrees}
 use Rattle.ground.specs.declared.quantity.Millimetres.{Millimetres}
@@ -112,6 +112,13 @@ Coding horizontalSpeed x = Always (λ c. HorizontalSpeedSet c (x .0))
 Coding verticalSpeed x = Always (λ c. VerticalSpeedSet c (x .0))
 Coding uncertaintySpeed x = UncertaintySpeedCoding x
 Coding confidence x = ConfidenceCoding x
+
+-- x is outside its field's range; x is above what its field's largest code covers
+abbrev pub OutOfRange : (f : Field) → QuantityOf f → Type 0
+OutOfRange f x = Coding f x (refused 7)
+
+abbrev pub TooUncertain : (f : Field) → QuantityOf f → Type 0
+TooUncertain f x = Coding f x (refused 8)
 
 -- what reporting a code says; 7 for a number that is no code of the field, also where the code's own type can't hold it
 abbrev pub Reporting : (f : Field) → CodeOf f → Said (QuantityOf f) → Type 0

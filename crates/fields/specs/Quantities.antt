@@ -1,14 +1,16 @@
 -- The quantity reported of a code, as a number: document 01's column "Quantity reported" worked out. That it is the quantity
 -- which reporting promises is a law (`proofs/QuantityLaws.antt`).
 use mathlib.Core.Bool.{cond}
-use Prim.Native.Nat.{ℕ, _+_, _-_, _*_, _/_, _^_, _<_}
+use Prim.Native.Nat.{ℕ, _+_, _-_, _*_, _/_, _<_}
 use lib.Dec.{eqb}
 use lib.IntN.{ℤ, subℕ}
 use lib.Signed.{mag}
+use Rattle.ground.specs.Counts.{angleCodes, bearingCodes, confidenceCodes}
 use Rattle.ground.specs.Signs.{signed}
 use Rattle.ground.specs.declared.quantity.UncertaintySpeed.the-variants as uncertain
 use Rattle.ground.specs.declared.quantity.Confidence.the-variants as confident
 use Rattle.coordinates.specs.Halves.{up, down}
+use Rattle.radii.specs.Tables.{wholePart}
 use Rattle.fields.specs.Fields.{
   Field,
   latitude,
@@ -37,10 +39,6 @@ latitudeSize N = (N * 90000000000 + 8388607) / 8388608
 abbrev pub longitudeQuantity : ℤ → ℤ
 longitudeQuantity N = subℕ (((up N + 8388608 - down N) * 360000000000 + 16777215) / 16777216) 180000000000
 
--- the whole part of scale·((num/den)^K - 1)
-abbrev pub wholePart : ℕ → ℕ → ℕ → ℕ → ℕ
-wholePart scale num den K = scale * (num ^ K - den ^ K) / den ^ K
-
 unfoldable pub quantityOf : (f : Field) → CodeOf f → QuantityOf f
 quantityOf latitude c = record { 0 = signed (c .0) (latitudeSize (c .1)) }
 quantityOf longitude c = record { 0 = longitudeQuantity (c .0) }
@@ -65,11 +63,11 @@ Held uncertainty c = c .0 < 128
 Held altitudeUncertainty c = c .0 < 128
 Held altitude c = c .1 < 32768
 Held innerRadius c = c .0 < 65536
-Held offset c = c .0 < 180
-Held included c = c .0 < 180
-Held orientation c = c .0 < 180
-Held bearing c = c .0 < 360
+Held offset c = c .0 < angleCodes
+Held included c = c .0 < angleCodes
+Held orientation c = c .0 < angleCodes
+Held bearing c = c .0 < bearingCodes
 Held horizontalSpeed c = c .0 < 65536
 Held verticalSpeed c = c .1 < 256
 Held uncertaintySpeed c = c .0 < 256
-Held confidence c = c .0 < 101
+Held confidence c = c .0 < confidenceCodes

@@ -1,6 +1,6 @@
 -- Document 01's column "Quantity reported", in its own words. That a report is what the column says is a law (`proofs/Column.antt`).
 use mathlib.Core.Path.{_≡_}
-use Prim.Native.Nat.{ℕ, _+_, _*_}
+use Prim.Native.Nat.{ℕ, _+_, _*_, _≤_}
 use lib.IntN.{ℤ, pos, negsuc}
 use mathlib.Core.Bool.{Bool, true}
 use Rattle.ground.specs.Signs.{signed}
@@ -58,7 +58,7 @@ Column orientation c x = x .0 ≡ 1000 * c .0
 Column bearing c x = x .0 ≡ 1000 * c .0
 Column horizontalSpeed c x = x .0 ≡ 1000 * c .0
 Column verticalSpeed c x = x .0 ≡ signed (c .0) (1000 * c .1)
-Column uncertaintySpeed c (uncertain.Speed s) = s .0 ≡ 1000 * c .0
+Column uncertaintySpeed c (uncertain.Speed s) = (c .0 ≤ 254) × (s .0 ≡ 1000 * c .0)
 Column uncertaintySpeed c uncertain.Missing = c .0 ≡ 255
-Column confidence c (confident.PerCent p) = p ≡ c .0
+Column confidence c (confident.PerCent p) = (1 ≤ c .0) × (c .0 ≤ 100) × (p ≡ c .0)
 Column confidence c confident.Missing = c .0 ≡ 0

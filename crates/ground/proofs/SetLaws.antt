@@ -6,7 +6,7 @@ use native.Mathlib.Omega.{arith}
 use lib.Dec.{T}
 use lib.IntN.{ℤ, pos, negsuc, natAbs}
 use Rattle.ground.specs.Signs.{isNegative, partsOf, signed}
-use Rattle.ground.specs.Sets.{OfSign, LeastOf, NearestOf}
+use Rattle.ground.specs.Sets.{OfSign, LeastOf, NearestOf, Outside, below, above}
 use Rattle.ground.specs.declared.signs.Parts.{Parts}
 
 -- ---- a number taken apart is in the set of its sign whose sizes have its size
@@ -31,3 +31,9 @@ module _ {P : ℕ → Type 0} where
   pub nearest-signed : (s : Bool) (a : ℕ) → LeastOf P a → (a ≡ 0 → P 1) → NearestOf (OfSign s P) (signed s a)
   nearest-signed false a p one = record { member = record { sign = refl; size = p .member }; nearest = λ y q. p .least (natAbs y) (q .size) }
   nearest-signed true a p one = nearest-below a p one
+
+-- ---- what is outside is not inside
+
+pub not-inside : {first last x : ℕ} → Outside first last x → first ≤ x → x ≤ last → ⊥
+not-inside (below h) a b = omega arith
+not-inside (above h) a b = omega arith

@@ -1,4 +1,5 @@
 pub mod Answers
+pub mod Counts
 pub mod Sets
 pub mod Signs
 pub mod Steps

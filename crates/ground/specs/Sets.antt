@@ -43,6 +43,7 @@ pub record GreatestCovered (covers : ℕ → ℕ → Type 0) (last K R : ℕ) : 
   pub covered : covers K R
   pub greatest : (S : ℕ) → covers K S → S ≤ R
 
--- x is not one of the numbers from `first` to `last`: it is above the last unless it is below the first
-abbrev pub Outside : ℕ → ℕ → ℕ → Type 0
-Outside first last x = first ≤ x → last < x
+-- x is not one of the numbers from `first` to `last`
+pub data Outside (first last x : ℕ) : Type 0 where
+  below : x < first → Outside first last x
+  above : last < x → Outside first last x

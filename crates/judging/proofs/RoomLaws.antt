@@ -8,8 +8,8 @@ use Rattle.ground.specs.declared.refusals.Refusal.{Refusal}
 use Rattle.ground.proofs.AnswerLaws.{not-0, when-done}
 use Rattle.layout.specs.Layout.{MessageField, Row}
 use Rattle.layout.specs.Rows.{lengthOf}
-use Rattle.layout.specs.Demands.{WriteAnswer}
-use Rattle.judging.specs.Judging.{RecordAnswer, RecordTaken}
+use Rattle.layout.specs.Demands.{WriteAnswer, Sound}
+use Rattle.judging.specs.Judging.{RecordAnswer}
 use Rattle.judging.proofs.DemandLaws.{next, passed}
 
 module _ {rows : List Row} {value : MessageField → ℕ} where
@@ -24,7 +24,7 @@ module _ {rows : List Row} {value : MessageField → ℕ} where
   pub refused : (room : ℕ) (why : Refusal) → RecordAnswer rows value (numberOf why) → WriteAnswer rows value room (numberOf why)
   refused room why = next (next (next (next (next (λ e. absurd (not-0 why e))))))
 
-  pub taken : RecordAnswer rows value 0 → RecordTaken rows value
+  pub taken : RecordAnswer rows value 0 → Sound rows value
   taken h =
       let p = passed h in
       let q = when-done _ _ _ (λ e. absurd (omega arith)) (p .4) in

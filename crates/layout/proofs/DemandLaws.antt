@@ -8,7 +8,7 @@ use Rattle.ground.specs.Answers.{Unless, met}
 use Rattle.ground.proofs.AnswerLaws.{when-done}
 use Rattle.layout.specs.Layout.{MessageField, Row}
 use Rattle.layout.specs.Rows.{read, lengthOf}
-use Rattle.layout.specs.Demands.{TypeKnown, CountSound, AnglesSound, ConfidenceSound, InFields, ReadAnswer, WriteAnswer}
+use Rattle.layout.specs.Demands.{TypeKnown, CountSound, AnglesSound, ConfidenceSound, ReadAnswer, WriteAnswer, Sound}
 
 -- a message that is read
 pub record Readable (rows : List Row) (s : List ℕ) : Type 0 where
@@ -18,14 +18,6 @@ pub record Readable (rows : List Row) (s : List ℕ) : Type 0 where
   pub long : length s ≡ lengthOf rows
   pub angles : AnglesSound rows (read s rows)
   pub sure : ConfidenceSound rows (read s rows)
-
--- a record that is written, room given
-pub record Sound (rows : List Row) (value : MessageField → ℕ) : Type 0 where
-  pub listed : TypeKnown rows
-  pub counted : CountSound rows value
-  pub angles : AnglesSound rows value
-  pub sure : ConfidenceSound rows value
-  pub fields : InFields rows value
 
 next : (demand : Type 0) (n : ℕ) (others : ℕ → Type 0) → 0 < n → Unless demand n others 0 → demand × others 0
 next demand n others h = when-done demand n others (λ e. absurd (omega arith))

@@ -1,5 +1,6 @@
 pub mod DemandLaws
 pub mod FieldLaws
+pub mod JustOne
 pub mod KindLaws
 pub mod MessageLaws
 pub mod OneMessage
@@ -9,6 +10,7 @@ pub mod RowLaws
 pub mod ShapeRecords
 pub mod ShapeTrips
 pub mod SpareLaws
+pub mod SpareReading
 pub mod TidyLaws
 pub mod Trips
 pub mod TypeLaws

@@ -7,8 +7,8 @@ use native.Mathlib.Nat.{add-zero, zero-add}
 use borrow.Author.Tests.{ne-eqb, eq-eqb}
 use Rattle.layout.specs.declared.shape.Kind.the-variants.{Polygon}
 use Rattle.layout.specs.Layout.{MessageField, Row, row, south, latitude, longitude, points, shapeRows}
-use Rattle.layout.specs.Rows.{tag, widthOf, endOf, lengthOf}
-use Rattle.layout.proofs.RowLaws.{All, Sorted}
+use Rattle.layout.specs.Rows.{All, tag, widthOf, endOf, lengthOf}
+use Rattle.layout.proofs.RowLaws.{Sorted}
 use Rattle.layout.proofs.TidyLaws.{firstOf, Found, Tidy}
 
 -- ---- order and length

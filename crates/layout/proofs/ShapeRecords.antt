@@ -40,7 +40,7 @@ use Rattle.layout.specs.Layout.{
   verticalUncertainty,
   typeOf,
 }
-use Rattle.layout.specs.Shapes.{upto, latitudeOf, longitudeOf, shapeOf, valueOf, zeroLatitude, zeroLongitude}
+use Rattle.layout.specs.Shapes.{upto, latitudeOf, longitudeOf, shapeOf, valueOf, zeroLatitude, zeroLongitude, Fifteen}
 use Rattle.layout.proofs.WidthLaws.{shapeWidest}
 
 -- ---- signs and lists
@@ -137,11 +137,6 @@ module _ (k : Kind) (value : MessageField → ℕ) (type-number : typeOf k ≡ v
   values-of verticalUncertainty = unused verticalUncertainty (codes verticalUncertainty)
 
 -- ---- the record of a record's numbers is that record
-
--- an array has its fifteen elements
-pub record Fifteen (x : Shape) : Type 0 where
-  pub all-latitudes : length (x .latitudes) ≡ 15
-  pub all-longitudes : length (x .longitudes) ≡ 15
 
 module _ (x : Shape) (fifteen : Fifteen x) (codes : (f : MessageField) → valueOf x f < 2 ^ shapeWidest f) where
   latitude-same : (i : ℕ) → latitudeOf (valueOf x) (suc i) ≡ getD (x .latitudes) i zeroLatitude

@@ -4,7 +4,7 @@ use mathlib.Core.Path.{_≡_, refl, ap, sym, subst, _∙_}
 use mathlib.Core.List.{List, _++_}
 use native.Mathlib.Omega.{arith}
 use lib.ListN.{length, take, drop}
-use Rattle.ground.specs.Answers.{handed}
+use Rattle.ground.specs.Answers.{outcomeNumber, handed}
 use Rattle.ground.specs.declared.refusals.Outcome.{Outcome}
 use Rattle.ground.specs.declared.refusals.Outcome.the-variants.{Done}
 use Rattle.octets.specs.Bits.{bits}
@@ -16,13 +16,15 @@ use Rattle.layout.specs.declared.shape.Shape.{Shape}
 use Rattle.layout.specs.declared.shape.ShapeRead.{ShapeRead}
 use Rattle.layout.specs.Layout.{MessageField, Row, typeNumber, count, south, latitude, longitude, shapeRows, typeOf}
 use Rattle.layout.specs.Rows.{tag, read, lengthOf, message, spareZero}
-use Rattle.layout.specs.Demands.{TypeKnown, WriteAnswer}
-use Rattle.layout.specs.Shapes.{kindOf, kindIn, rowsIn, shapeIn, latitudeOf, longitudeOf, shapeOf, blankShape, valueOf, rowsOf, ReadsShape, WritesShape}
+use Rattle.layout.specs.Demands.{TypeKnown, ReadAnswer, WriteAnswer, Sound}
+use Rattle.layout.specs.Shapes.{kindOf, kindIn, rowsIn, shapeIn, latitudeOf, longitudeOf, shapeOf, blankShape, valueOf, rowsOf, ReadsShape, WritesShape, Fifteen}
+use Rattle.layout.specs.Messages.{SameButSpare}
+use Rattle.layout.proofs.SpareReading.{spare-numbers, spare-answer}
 use Rattle.layout.proofs.TidyLaws.{read-bits, read-in-fields, read-message}
 use Rattle.layout.proofs.KindLaws.{pointsOf, no-point-width, shape-tidy}
-use Rattle.layout.proofs.DemandLaws.{Readable, Sound}
+use Rattle.layout.proofs.DemandLaws.{Readable}
 use Rattle.layout.proofs.WidthLaws.{code-of}
-use Rattle.layout.proofs.ShapeRecords.{Fifteen, length-upto, values-of, shape-of-values}
+use Rattle.layout.proofs.ShapeRecords.{length-upto, values-of, shape-of-values}
 use Rattle.layout.proofs.Trips.{Coder, Read, sound-in, message-in, readable-sent, record-sent, taken, accepted, again, same-but-spare, back}
 
 -- ---- the type and the count
@@ -221,3 +223,24 @@ unfolding shapes
 shape-back x before after w r fifteen writes done h =
     let e = back shapes x (r .shape) (r .outcome) before after w fifteen writes done (as-read (take (w .length) after) r h) in
     λ i. record { outcome = e .0 i; shape = e .1 i }
+
+-- two strings that differ in spare bits alone get the same answer and the same record
+module _ (s t : List ℕ) (same : SameButSpare (rowsIn s) s t) where
+  kinds-same : kindIn t ≡ kindIn s
+  kinds-same = ap kindOf (sym (same .types))
+
+  rows-same : rowsIn t ≡ rowsIn s
+  rows-same =
+      let own = own-rows (kindIn s) s in
+      let counted : read t (shapeRows (kindIn s) (read s (rowsIn s) count)) count ≡ read s (rowsIn s) count =
+      ap (λ (rows : List Row). read t rows count) own ∙ ap (λ (number : MessageField → ℕ). number count) (sym (spare-numbers (rowsIn s) s t same)) in
+      ap (λ (k : Kind). shapeRows k (bits t 4 4)) kinds-same ∙ same-rows (kindIn s) t (read s (rowsIn s) count) counted ∙ own
+
+  pub shape-spare : (r : ShapeRead) → ReadsShape s r → ReadsShape t r
+  shape-spare r h =
+      let numbers : read t (rowsIn t) ≡ read s (rowsIn s) = ap (read t) rows-same ∙ sym (spare-numbers (rowsIn s) s t same) in
+      let shapes-same : shapeIn t ≡ shapeIn s = λ i. shapeOf (kinds-same i) (numbers i) in
+      record {
+        answer = subst (λ (rows : List Row). ReadAnswer rows t (outcomeNumber (r .outcome))) (sym rows-same) (spare-answer (rowsIn s) s t same _ (h .answer));
+        shape = h .shape ∙ ap (λ (x : Shape). handed (r .outcome) x (blankShape Nothing)) (sym shapes-same);
+      }

@@ -12,13 +12,13 @@ use Rattle.octets.specs.Bits.{bit, bits, octets}
 use Rattle.octets.proofs.BitLaws.{bits-lt, bits-high, bits-low}
 use Rattle.octets.proofs.OctetLaws.{octets-bits}
 use Rattle.layout.specs.Layout.{MessageField, Row}
-use Rattle.layout.specs.Rows.{endOf, lengthOf, packed, message, spareZero}
+use Rattle.layout.specs.Rows.{All, endOf, lengthOf, packed, message, spareZero}
 use Rattle.layout.specs.Demands.{InFields}
-use Rattle.layout.proofs.RowLaws.{All, Sorted, Narrow, Holds, stand, unpacked, packed-lt}
+use Rattle.layout.proofs.RowLaws.{Sorted, Narrow, Holds, stand, unpacked, packed-lt}
 use Rattle.layout.proofs.TidyLaws.{Tidy, narrow}
 use Rattle.layout.specs.Spare.{InNoRow, Spare}
 
-own : (s : List ℕ) (rs : List Row) → All (Narrow (λ r. bits s (r .first) (r .width))) rs
+pub own : (s : List ℕ) (rs : List Row) → All (Narrow (λ r. bits s (r .first) (r .width))) rs
 own s [] = tt
 own s (r ∷ rs) = (bits-lt s (r .first) (r .width), own s rs)
 
@@ -71,7 +71,7 @@ module _ (number : Row → ℕ) (s : List ℕ) where
       before-or-after after false t = after (p .0 (ltb-false k (r .first) t)) l (p .1)
 
   -- octets of packed numbers have zeros in their spare bits
-  spare-of : (rows : List Row) (k : ℕ) → Tidy rows → All (Narrow number) rows → s ≡ octets (lengthOf rows) (packed number 0 0 rows) → Spare rows k → bit s k ≡ 0
+  pub spare-of : (rows : List Row) (k : ℕ) → Tidy rows → All (Narrow number) rows → s ≡ octets (lengthOf rows) (packed number 0 0 rows) → Spare rows k → bit s k ≡ 0
   spare-of rows k tidy n e p =
       let v = packed number 0 0 rows in
       let w = tidy .whole in

@@ -13,9 +13,9 @@ use Rattle.ground.proofs.AnswerLaws.{outcome-one}
 use Rattle.layout.specs.declared.Written.{Written}
 use Rattle.layout.specs.Layout.{MessageField, Row}
 use Rattle.layout.specs.Rows.{read, lengthOf, message, spareZero}
-use Rattle.layout.specs.Demands.{CountSound, AnglesSound, ConfidenceSound, ReadAnswer, WriteAnswer, Writes}
+use Rattle.layout.specs.Demands.{CountSound, AnglesSound, ConfidenceSound, ReadAnswer, WriteAnswer, Writes, Sound}
 use Rattle.layout.proofs.TidyLaws.{Tidy, read-in-fields, read-message, written-again, message-length}
-use Rattle.layout.proofs.DemandLaws.{Readable, Sound, readable, read-done, sound, write-done}
+use Rattle.layout.proofs.DemandLaws.{Readable, readable, read-done, sound, write-done}
 use Rattle.layout.proofs.OneMessage.{read-answer-one, write-answer-one}
 
 -- records of one sort, their rows and numbers, and what is known of them

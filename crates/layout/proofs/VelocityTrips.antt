@@ -4,6 +4,7 @@ use mathlib.Core.Path.{_≡_, refl, ap, sym, subst, _∙_}
 use mathlib.Core.List.{List, _++_}
 use native.Mathlib.Omega.{arith}
 use lib.ListN.{length, take, drop}
+use Rattle.ground.specs.Answers.{outcomeNumber, handed}
 use Rattle.ground.specs.declared.refusals.Outcome.{Outcome}
 use Rattle.ground.specs.declared.refusals.Outcome.the-variants.{Done}
 use Rattle.octets.specs.Bits.{bits}
@@ -41,11 +42,13 @@ use Rattle.layout.specs.Layout.{
   velocityTypeOf,
 }
 use Rattle.layout.specs.Rows.{read, lengthOf, message, spareZero}
-use Rattle.layout.specs.Demands.{TypeKnown, WriteAnswer}
+use Rattle.layout.specs.Demands.{TypeKnown, ReadAnswer, WriteAnswer, Sound}
 use Rattle.layout.specs.Velocities.{velocityKindOf, velocityKindIn, velocityRowsIn, velocityIn, velocityOf, blankVelocity, velocityValueOf, ReadsVelocity, WritesVelocity}
+use Rattle.layout.specs.Messages.{SameButSpare}
+use Rattle.layout.proofs.SpareReading.{spare-numbers, spare-answer}
 use Rattle.layout.proofs.TidyLaws.{read-in-fields, read-message}
 use Rattle.layout.proofs.KindLaws.{velocity-tidy}
-use Rattle.layout.proofs.DemandLaws.{Readable, Sound}
+use Rattle.layout.proofs.DemandLaws.{Readable}
 use Rattle.layout.proofs.WidthLaws.{velocityWidest, velocity-code-of}
 use Rattle.layout.proofs.ShapeRecords.{sign-back, bit-back}
 use Rattle.layout.proofs.Trips.{Coder, Read, taken, accepted, again, same-but-spare, back}
@@ -187,3 +190,16 @@ unfolding velocities
 velocity-back x before after w r writes done h =
     let e = back velocities x (r .velocity) (r .outcome) before after w tt writes done (as-read (take (w .length) after) r h) in
     λ i. record { outcome = e .0 i; velocity = e .1 i }
+
+-- two strings that differ in spare bits alone get the same answer and the same record
+module _ (s t : List ℕ) (same : SameButSpare (velocityRowsIn s) s t) where
+  pub velocity-spare : (r : VelocityRead) → ReadsVelocity s r → ReadsVelocity t r
+  velocity-spare r h =
+      let kinds : velocityKindIn t ≡ velocityKindIn s = ap velocityKindOf (sym (same .types)) in
+      let rows : velocityRowsIn t ≡ velocityRowsIn s = ap velocityRows kinds in
+      let numbers : read t (velocityRowsIn t) ≡ read s (velocityRowsIn s) = ap (read t) rows ∙ sym (spare-numbers (velocityRowsIn s) s t same) in
+      let velocities-same : velocityIn t ≡ velocityIn s = λ i. velocityOf (kinds i) (numbers i) in
+      record {
+        answer = subst (λ (rows : List Row). ReadAnswer rows t (outcomeNumber (r .outcome))) (sym rows) (spare-answer (velocityRowsIn s) s t same _ (h .answer));
+        velocity = h .velocity ∙ ap (λ (x : Velocity). handed (r .outcome) x (blankVelocity Nothing)) (sym velocities-same);
+      }

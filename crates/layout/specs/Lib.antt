@@ -1,5 +1,6 @@
 pub mod Demands
 pub mod Layout
+pub mod Messages
 pub mod ReadNumbers
 pub mod Rows
 pub mod Shapes

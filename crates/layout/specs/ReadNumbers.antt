@@ -4,6 +4,7 @@ use mathlib.Core.List.{List}
 use Prim.Native.Nat.{ℕ}
 use lib.Dec.{eqb, leb, ltb}
 use lib.ListN.{length}
+use Rattle.ground.specs.Counts.{angleCodes, bearingCodes, confidenceCodes}
 use Rattle.layout.specs.Layout.{Row, count, orientation, offset, included, bearing, confidence}
 use Rattle.layout.specs.Rows.{widthOf, read, lengthOf}
 
@@ -18,5 +19,5 @@ readNumber rows s =
     (unless (ltb 0 (lengthOf rows)) 2
     (unless (cond (eqb (widthOf rows count) 0) true (leb 3 (read s rows count) && leb (read s rows count) 15)) 4
     (unless (eqb (length s) (lengthOf rows)) 3
-    (unless (ltb (read s rows orientation) 180 && (ltb (read s rows offset) 180 && (ltb (read s rows included) 180 && ltb (read s rows bearing) 360))) 5
-    (unless (ltb (read s rows confidence) 101) 6 0)))))
+    (unless (ltb (read s rows orientation) angleCodes && (ltb (read s rows offset) angleCodes && (ltb (read s rows included) angleCodes && ltb (read s rows bearing) bearingCodes))) 5
+    (unless (ltb (read s rows confidence) confidenceCodes) 6 0)))))

@@ -56,6 +56,11 @@ tag (south i) = 3 * i + 19
 tag (latitude i) = 3 * i + 20
 tag (longitude i) = 3 * i + 21
 
+-- each of these rows
+abbrev pub All : (Row → Type 0) → List Row → Type 0
+All P [] = Unit {0}
+All P (r ∷ rs) = P r × All P rs
+
 -- a field's width, 0 where no row has it
 abbrev pub widthOf : List Row → MessageField → ℕ
 widthOf [] f = 0

@@ -4,7 +4,7 @@ use mathlib.Core.Bool.{false}
 use mathlib.Core.List.{List, [], _∷_, _++_}
 use Prim.Native.Nat.{ℕ, zero, suc}
 use lib.IntN.{pos}
-use lib.ListN.{getD}
+use lib.ListN.{length, getD}
 use Rattle.ground.specs.Answers.{outcomeNumber, handed}
 use Rattle.ground.specs.declared.code.LatitudeCode.{LatitudeCode}
 use Rattle.ground.specs.declared.code.LongitudeCode.{LongitudeCode}
@@ -63,8 +63,9 @@ latitudeOf value i = record { 0 = signOf (value (south i)); 1 = value (latitude 
 abbrev pub longitudeOf : (MessageField → ℕ) → ℕ → LongitudeCode
 longitudeOf value i = record { 0 = fromComplement (value (longitude i)) }
 
-abbrev pub shapeOf : Kind → (MessageField → ℕ) → Shape
-shapeOf k value = record {
+-- with these points, and so many of them
+abbrev pub shapeWith : Kind → (MessageField → ℕ) → ℕ → List LatitudeCode → List LongitudeCode → Shape
+shapeWith k value n latitudes longitudes = record {
   kind = k;
   latitude = latitudeOf value 0;
   longitude = longitudeOf value 0;
@@ -78,14 +79,22 @@ shapeOf k value = record {
   «inner_radius» = record { 0 = value innerRadius };
   offset = record { 0 = value offset };
   included = record { 0 = value included };
-  count = value count;
-  latitudes = upto 15 (λ i. latitudeOf value (suc i));
-  longitudes = upto 15 (λ i. longitudeOf value (suc i));
+  count = n;
+  latitudes = latitudes;
+  longitudes = longitudes;
 }
+
+abbrev pub shapeOf : Kind → (MessageField → ℕ) → Shape
+shapeOf k value = shapeWith k value (value count) (upto 15 (λ i. latitudeOf value (suc i))) (upto 15 (λ i. longitudeOf value (suc i)))
 
 -- the record in which every code is zero, and the record of a refusal
 abbrev pub blankShape : Kind → Shape
 blankShape k = shapeOf k (λ f. 0)
+
+-- a record whose arrays have all their elements, as those of every record of the code have
+pub record Fifteen (x : Shape) : Type 0 where
+  pub all-latitudes : length (x .latitudes) ≡ 15
+  pub all-longitudes : length (x .longitudes) ≡ 15
 
 -- ---- the numbers of a record's fields
 

@@ -1,7 +1,7 @@
 -- The codes of the quantities that have a range, polygon points aside.
 use mathlib.Core.Path.{_≡_}
 use mathlib.Core.Bool.{Bool, true, false}
-use Rattle.ground.specs.Answers.{done, refused}
+use Rattle.ground.specs.Answers.{done}
 use Rattle.ground.specs.declared.code.IncludedCode.{IncludedCode}
 use Rattle.ground.specs.declared.quantity.Millidegrees.{Millidegrees}
 use Rattle.angles.specs.declared.IncludedCoded.{IncludedCoded}
@@ -17,12 +17,12 @@ use Rattle.outline_codes.specs.declared.ranges.RangedCoded.the-variants.
 
 -- none is out of its range; an included angle is looked at in an arc alone
 pub record RangesKept (arc : Bool) (q : ShapeQuantities) : Type 0 where
-  pub latitudes : Coding field.latitude (q .latitude) (refused 7) → ⊥
-  pub longitudes : Coding field.longitude (q .longitude) (refused 7) → ⊥
-  pub orientations : Coding field.orientation (q .orientation) (refused 7) → ⊥
-  pub offsets : Coding field.offset (q .offset) (refused 7) → ⊥
-  pub includeds : arc ≡ true → Coding field.included (q .included) (refused 7) → ⊥
-  pub confidences : Coding field.confidence (q .confidence) (refused 7) → ⊥
+  pub latitudes : field.OutOfRange field.latitude (q .latitude) → ⊥
+  pub longitudes : field.OutOfRange field.longitude (q .longitude) → ⊥
+  pub orientations : field.OutOfRange field.orientation (q .orientation) → ⊥
+  pub offsets : field.OutOfRange field.offset (q .offset) → ⊥
+  pub includeds : arc ≡ true → field.OutOfRange field.included (q .included) → ⊥
+  pub confidences : field.OutOfRange field.confidence (q .confidence) → ⊥
 
 abbrev pub IncludedCodes : Bool → Millidegrees → IncludedCode → Type 0
 IncludedCodes true a c = Coding field.included a (done c)

@@ -1,5 +1,5 @@
 -- The codes of a shape's uncertainties.
-use Rattle.ground.specs.Answers.{done, refused}
+use Rattle.ground.specs.Answers.{done}
 use Rattle.fields.specs.Fields.{Coding}
 use Rattle.fields.specs.Fields as field
 use Rattle.quantities.specs.declared.shape.ShapeQuantities.{ShapeQuantities}
@@ -9,10 +9,10 @@ use Rattle.outline_codes.specs.declared.sizes.SizesCoded.the-variants.{C
 
 -- none is above what its largest code covers
 pub record SizesCovered (q : ShapeQuantities) : Type 0 where
-  pub uncertainties : Coding field.uncertainty (q .uncertainty) (refused 8) → ⊥
-  pub semi-majors : Coding field.uncertainty (q .«semi_major») (refused 8) → ⊥
-  pub semi-minors : Coding field.uncertainty (q .«semi_minor») (refused 8) → ⊥
-  pub altitude-uncertainties : Coding field.altitudeUncertainty (q .«altitude_uncertainty») (refused 8) → ⊥
+  pub uncertainties : field.TooUncertain field.uncertainty (q .uncertainty) → ⊥
+  pub semi-majors : field.TooUncertain field.uncertainty (q .«semi_major») → ⊥
+  pub semi-minors : field.TooUncertain field.uncertainty (q .«semi_minor») → ⊥
+  pub altitude-uncertainties : field.TooUncertain field.altitudeUncertainty (q .«altitude_uncertainty») → ⊥
 
 pub record SizeCodes (q : ShapeQuantities) (r : Sizes) : Type 0 where
   pub uncertainties : Coding field.uncertainty (q .uncertainty) (done (r .uncertainty))

@@ -15,10 +15,10 @@ use Rattle.layout.specs.declared.velocity.Velocity.{Velocity}
 use Rattle.layout.specs.Layout.{MessageField, Row, velocityRows}
 use Rattle.layout.specs.Layout as layout
 use Rattle.layout.specs.Rows.{widthOf, lengthOf}
-use Rattle.layout.specs.Demands.{Used, InFields, WriteAnswer}
+use Rattle.layout.specs.Demands.{Used, InFields, WriteAnswer, Sound}
 use Rattle.layout.specs.Shapes.{rowsOf, valueOf}
 use Rattle.layout.specs.Velocities.{velocityValueOf}
-use Rattle.layout.proofs.DemandLaws.{Sound, sound}
+use Rattle.layout.proofs.DemandLaws.{sound}
 use Rattle.layout.proofs.WidthLaws.{shapeWidest, velocityWidest, code-of, velocity-code-of}
 use Rattle.quantities.specs.Places.{
   Place,

@@ -3,10 +3,10 @@
 use mathlib.Core.Path.{_≡_}
 use mathlib.Core.List.{List}
 use Prim.Native.Nat.{ℕ, _≤_}
-use Rattle.ground.specs.Answers.{done, refused, Unless, Else0}
+use Rattle.ground.specs.Answers.{done, Unless, Else0}
 use Rattle.ground.specs.declared.refusals.Outcome.{Outcome}
 use Rattle.ground.specs.declared.refusals.Outcome.the-variants as outcome
-use Rattle.fields.specs.Fields.{Coding, Reporting}
+use Rattle.fields.specs.Fields.{Coding, OutOfRange, TooUncertain, Reporting}
 use Rattle.layout.specs.Layout.{Row}
 use Rattle.layout.specs.Layout as layout
 use Rattle.layout.specs.Demands.{TypeKnown, Used, CountSound}
@@ -24,14 +24,14 @@ pub record EachCoded (rows : List Row) (quantity : PlaceQuantities) (code : Plac
 
 -- 7: a quantity outside its field's range; one that the type doesn't use and that isn't zero; semi-minor above semi-major
 pub record QuantitiesInRange (rows : List Row) (count : ℕ) (quantity : PlaceQuantities) : Type 0 where
-  pub used : (p : Place) → Used rows (rowOf p) → Coding (fieldOf p) (quantity p) (refused 7) → ⊥
+  pub used : (p : Place) → Used rows (rowOf p) → OutOfRange (fieldOf p) (quantity p) → ⊥
   pub unused : (p : Place) → Unused rows (rowOf p) → quantity p ≡ zeroQuantity (fieldOf p)
   pub uncounted : Unused rows layout.count → count ≡ 0
   pub axes : quantity semiMinor .0 ≤ quantity semiMajor .0
 
 -- 8: an uncertainty above what its field's largest code covers
 pub record QuantitiesCovered (rows : List Row) (quantity : PlaceQuantities) : Type 0 where
-  pub used : (p : Place) → Used rows (rowOf p) → Coding (fieldOf p) (quantity p) (refused 8) → ⊥
+  pub used : (p : Place) → Used rows (rowOf p) → TooUncertain (fieldOf p) (quantity p) → ⊥
 
 -- CODING a record by its own type, by the number of its answer: 2, 4, 7, 8
 abbrev pub CodeAnswer : List Row → ℕ → PlaceQuantities → ℕ → Type 0

@@ -1,4 +1,4 @@
--- A SHAPE'S QUANTITIES IN 44 CELLS.
+-- A SHAPE'S QUANTITIES IN 44 ELEMENTS.
 use mathlib.Core.List.{List, [], _∷_, _++_}
 use Prim.Native.Nat.{ℕ, zero, suc, _+_, _*_, _≤_, _<_}
 use lib.IntN.{ℤ, pos}
@@ -33,8 +33,9 @@ quantityElements q = singleQuantityElements q ++ pointQuantityElements (q .latit
 abbrev pub coordinateIn : List ℤ → ℕ → ℕ → Nanodegrees
 coordinateIn elements first i = record { 0 = quantityIn elements (first + 2 * i) }
 
-abbrev pub quantitiesIn : List ℤ → ShapeQuantities
-quantitiesIn elements = record {
+-- with these points
+abbrev pub quantitiesWith : List ℤ → List Nanodegrees → List Nanodegrees → ShapeQuantities
+quantitiesWith elements latitudes longitudes = record {
   kind = kindOf (octetOf (quantityIn elements 0));
   latitude = record { 0 = quantityIn elements 2 };
   longitude = record { 0 = quantityIn elements 3 };
@@ -49,30 +50,16 @@ quantitiesIn elements = record {
   included = record { 0 = naturalOf (quantityIn elements 12) };
   confidence = confidenceOf (quantityIn elements 13);
   count = octetOf (quantityIn elements 1);
-  latitudes = upto 15 (coordinateIn elements 14);
-  longitudes = upto 15 (coordinateIn elements 15);
+  latitudes = latitudes;
+  longitudes = longitudes;
 }
+
+abbrev pub quantitiesIn : List ℤ → ShapeQuantities
+quantitiesIn elements = quantitiesWith elements (upto 15 (coordinateIn elements 14)) (upto 15 (coordinateIn elements 15))
 
 -- their outline: the quantities but for the points
 abbrev pub quantityOutlineIn : List ℤ → ShapeQuantities
-quantityOutlineIn elements = record {
-  kind = kindOf (octetOf (quantityIn elements 0));
-  latitude = record { 0 = quantityIn elements 2 };
-  longitude = record { 0 = quantityIn elements 3 };
-  altitude = record { 0 = signedOf (quantityIn elements 4) };
-  uncertainty = record { 0 = naturalOf (quantityIn elements 5) };
-  «semi_major» = record { 0 = naturalOf (quantityIn elements 6) };
-  «semi_minor» = record { 0 = naturalOf (quantityIn elements 7) };
-  orientation = record { 0 = naturalOf (quantityIn elements 8) };
-  «altitude_uncertainty» = record { 0 = naturalOf (quantityIn elements 9) };
-  «inner_radius» = record { 0 = naturalOf (quantityIn elements 10) };
-  offset = record { 0 = naturalOf (quantityIn elements 11) };
-  included = record { 0 = naturalOf (quantityIn elements 12) };
-  confidence = confidenceOf (quantityIn elements 13);
-  count = octetOf (quantityIn elements 1);
-  latitudes = replicate 15 zeroDegrees;
-  longitudes = replicate 15 zeroDegrees;
-}
+quantityOutlineIn elements = quantitiesWith elements (replicate 15 zeroDegrees) (replicate 15 zeroDegrees)
 
 -- ---- Quantities arrive signed in 64 bits for coordinates, signed in 32 for the altitude, unsigned in 32 otherwise.
 

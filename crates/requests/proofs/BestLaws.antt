@@ -1,5 +1,5 @@
 -- FROM RECORDS TO MESSAGES: what is the best message of one kind, and which kind is best, over all octet strings.
-use Prim.Native.Nat.{ℕ}
+use Prim.Native.Nat.{ℕ, _≤_}
 use mathlib.Core.Path.{_≡_, refl, sym, ap, _∙_, subst}
 use mathlib.Core.List.{List}
 use native.Mathlib.Omega.{arith}
@@ -8,11 +8,11 @@ use Rattle.layout.specs.declared.shape.Kind.{Kind}
 use Rattle.layout.specs.declared.shape.Kind.the-variants.{Point, Circle, Ellipse, AltitudePoint, AltitudeEllipsoid}
 use Rattle.layout.specs.declared.shape.Shape.{Shape}
 use Rattle.layout.specs.Layout.{Row, shapeRows}
-use Rattle.layout.specs.Rows.{lengthOf, message, spareZero}
+use Rattle.layout.specs.Rows.{lengthOf, message}
 use Rattle.layout.specs.Shapes.{rowsIn, shapeIn, rowsOf, valueOf}
 use Rattle.layout.proofs.TidyLaws.{message-length, message-octets}
 use Rattle.layout.proofs.DemandLaws.{Readable, readable, read-done}
-use Rattle.layout.proofs.ShapeTrips.{message-read, rows-read, readable-message, record-message}
+use Rattle.layout.proofs.ShapeTrips.{rows-read, readable-message, record-message}
 use Rattle.requests.specs.declared.Request.{Request}
 use Rattle.requests.specs.declared.codes.Wanted.{Wanted}
 use Rattle.requests.specs.Holding.{Holds}
@@ -26,6 +26,10 @@ use Rattle.requests.proofs.RecordLaws.{record-sound, record-whole, reco
 -- a message's length is that of its kind
 pub length-of : (s : List ℕ) → Readable (rowsIn s) s → TakesPart (shapeIn s .kind) → length s ≡ lengthOf (shapeRows (shapeIn s .kind) 0)
 length-of s r part = r .long ∙ ap lengthOf (sym (rows-read s r) ∙ part-rows (shapeIn s .kind) part (shapeIn s .count))
+
+-- no message that takes part is longer than 14 octets
+pub at-most-14 : {q : Request} {taken : Kind → Type 0} (s : List ℕ) → Candidate q taken s → length s ≤ 14
+at-most-14 s c = rw (length-of s (readable (rowsIn s) s (c .readable)) (c .part)) (by-kind (λ k. lengthOf (shapeRows k 0) ≤ 14) (omega arith) (omega arith) (omega arith) (omega arith) (omega arith) (shapeIn s .kind) (c .part))
 
 module _ (w : Wanted) (t : Tame w) where
   -- the record of a kind that can hold what is wanted fits it
@@ -81,12 +85,12 @@ module _ (q : Request) (w : Wanted) (p : CodesOf q w) (t : Tame w) where
         (subst (λ (n : ℕ). Before (rank (shapeIn s) n) (rankOf k w)) (length-of s r (c .part))
         (subst (λ (m : List ℕ). Before (rank (shapeIn s) (length s)) m) (message-rank w t k (a .part)) b)))
 
-    own-spare : messageOf k w ≡ spareZero (rowsIn (messageOf k w)) (messageOf k w)
-    own-spare = ap (λ (x : Shape). message (rowsOf x) (valueOf x)) (sym (message-back w t k (a .part))) ∙ message-read (messageOf k w) (message-readable w t k (a .part))
+    own-record : messageOf k w ≡ message (rowsOf (shapeIn (messageOf k w))) (valueOf (shapeIn (messageOf k w)))
+    own-record = ap (λ (x : Shape). message (rowsOf x) (valueOf x)) (sym (message-back w t k (a .part)))
 
     -- WHAT IS THE BEST MESSAGE OF ONE KIND: the one of the wanted codes
     pub best-of-kind : Best q (λ j. j ≡ k) (messageOf k w)
-    best-of-kind = record { candidate = own-candidate (λ j. j ≡ k) refl; none-better = own-best; spare-zero = own-spare }
+    best-of-kind = record { candidate = own-candidate (λ j. j ≡ k) refl; none-better = own-best; own = own-record }
 
   -- WHICH KIND IS BEST: the message of the best kind is the best of all
   pub best-of-kinds : (taken : Kind → Type 0) (k : Kind) → BestKind w taken k → Best q taken (messageOf k w)
@@ -100,5 +104,5 @@ module _ (q : Request) (w : Wanted) (p : CodesOf q w) (t : Tame w) where
         (subst (λ (m : List ℕ). Before (rank (shapeIn s) (length s)) m → ⊥) (message-rank w t j (a .part)) own)
         (b .none-before j a (c .listed))
         (subst (λ (m : List ℕ). Before (rank (shapeIn s) (length s)) m) (message-rank w t k (b .able .part)) h);
-    spare-zero = own-spare k (b .able);
+    own = own-record k (b .able);
   }

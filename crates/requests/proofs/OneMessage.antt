@@ -53,7 +53,7 @@ use Rattle.layout.specs.Demands.{Used, InFields}
 use Rattle.layout.specs.Shapes.{rowsIn, shapeIn, rowsOf, valueOf}
 use Rattle.layout.proofs.KindLaws.{no-point-width}
 use Rattle.layout.proofs.DemandLaws.{readable}
-use Rattle.layout.proofs.ShapeTrips.{sound-read, message-read}
+use Rattle.layout.proofs.ShapeTrips.{sound-read}
 use Rattle.layout.proofs.WidthLaws.{shapeWidest, shape-width}
 use Rattle.quantities.proofs.UnusedLaws.{by-use, no-number}
 use Rattle.requests.specs.declared.Request.{Request}
@@ -262,6 +262,6 @@ best-one q taken s t a b =
     let g2 = tail-not-back f1 g1 in
     let long : length s ≡ length t = head-same (tail-not f2 g2) (tail-not-back f2 g2) in
     let kinds = kind-one (shapeIn s .kind) (shapeIn t .kind) (c .part) (d .part) (sym (length-of s u (c .part)) ∙ long ∙ length-of t v (d .part)) in
-    a .spare-zero ∙ sym (message-read s u)
+    a .own
     ∙ same-message q (shapeIn s) (shapeIn t) (c .part) kinds (c .holds) (d .holds) (head-same f g) (head-same f1 g1) (head-same f2 g2) (sound-read s u .fields) (sound-read t v .fields)
-    ∙ message-read t v ∙ sym (b .spare-zero)
+    ∙ sym (b .own)

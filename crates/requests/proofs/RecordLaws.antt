@@ -45,13 +45,12 @@ use Rattle.layout.specs.Layout.{
   typeOf,
 }
 use Rattle.layout.specs.Rows.{tag, widthOf}
-use Rattle.layout.specs.Demands.{TypeKnown}
-use Rattle.layout.specs.Shapes.{rowsOf, valueOf, latitudeOf, longitudeOf}
+use Rattle.layout.specs.Demands.{TypeKnown, Sound}
+use Rattle.layout.specs.Shapes.{rowsOf, valueOf, latitudeOf, longitudeOf, Fifteen}
 use Rattle.layout.proofs.FieldLaws.{tag-one}
 use Rattle.layout.proofs.KindLaws.{type-small}
 use Rattle.layout.proofs.TidyLaws.{both}
-use Rattle.layout.proofs.DemandLaws.{Sound}
-use Rattle.layout.proofs.ShapeRecords.{sign-back, length-upto, values-of, Fifteen}
+use Rattle.layout.proofs.ShapeRecords.{sign-back, length-upto, values-of}
 use Rattle.layout.proofs.WidthLaws.{shapeWidest}
 use Rattle.requests.specs.declared.codes.Wanted.{Wanted}
 use Rattle.requests.specs.Choice.{TakesPart}

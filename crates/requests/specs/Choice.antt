@@ -10,9 +10,9 @@ use Rattle.layout.specs.declared.shape.Kind.the-variants.{Nothing, Point, Circl
 use Rattle.ground.specs.declared.code.AltitudeUncertaintyCode.{AltitudeUncertaintyCode}
 use Rattle.layout.specs.declared.shape.Shape.{Shape}
 use Rattle.layout.specs.Layout.{typeOf}
-use Rattle.layout.specs.Rows.{spareZero}
+use Rattle.layout.specs.Rows.{message}
 use Rattle.layout.specs.Demands.{ReadAnswer}
-use Rattle.layout.specs.Shapes.{rowsIn, shapeIn, rowsOf}
+use Rattle.layout.specs.Shapes.{rowsIn, shapeIn, rowsOf, valueOf}
 use Rattle.requests.specs.declared.Request.{Request}
 use Rattle.requests.specs.Ranges.{RequestInRange, RequestCovered}
 use Rattle.requests.specs.Holding.{Had, has, hasNot, Area, circle, ellipse, noArea, areaHad, altitudeUncertaintyHad, Holds}
@@ -72,11 +72,11 @@ rank x n = majorOf (areaHad (rowsOf x) x) ∷ minorOf (areaHad (rowsOf x) x) ∷
 abbrev pub Better : List ℕ → List ℕ → Type 0
 Better s t = Before (rank (shapeIn s) (length s)) (rank (shapeIn t) (length t))
 
--- s is a candidate, none is better, and its spare bits are zero
+-- s is a candidate, none is better, and it is what its own record writes
 pub record Best (q : Request) (taken : Kind → Type 0) (s : List ℕ) : Type 0 where
   pub candidate : Candidate q taken s
   pub none-better : (t : List ℕ) → Candidate q taken t → Better t s → ⊥
-  pub spare-zero : s ≡ spareZero (rowsIn s) s
+  pub own : s ≡ message (rowsOf (shapeIn s)) (valueOf (shapeIn s))
 
 -- ---- THE PROMISE
 

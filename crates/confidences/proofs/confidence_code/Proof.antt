@@ -1,15 +1,16 @@
 -- `confidences::confidence_code` meets its contract, in each arm for the confidence that it matched.
 use mathlib.Core.Path.{refl, subst⁻¹}
 use borrow.Author.Needs.{needs}
+use Rattle.ground.specs.Sets.{below, above}
 use Rattle.confidences.specs.Confidences.{ConfidenceSet, NoPerCent}
 use Rattle.confidences.proofs.confidence_code.Statement.{statement}
 use Rattle.confidences.proofs.confidence_code.Tie as tie
 
 returns : tie.Need-returns
-returns c = (refl, subst⁻¹ NoPerCent (c .before .before .confidence .given .1) (search needs))
+returns c = (refl, subst⁻¹ NoPerCent (c .before .before .confidence .given .1) (below (search needs)))
 
 returns-2 : tie.Need-returns-2
-returns-2 c = (refl, subst⁻¹ NoPerCent (c .before .before .before .confidence .given .1) (search needs))
+returns-2 c = (refl, subst⁻¹ NoPerCent (c .before .before .before .confidence .given .1) (above (search needs)))
 
 enum-told : tie.Need-enum-told
 enum-told c = search needs

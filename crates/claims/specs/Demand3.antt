@@ -1,4 +1,4 @@
--- DEMAND 3 in its own words. That the choice's promise says it is a law (proofs/Demand.antt).
+-- DEMAND 3 in its own words. That the choice's promise says it is a law (proofs/Demand3.antt).
 use Prim.Native.Nat.{ℕ, _≤_, _<_}
 use mathlib.Core.Path.{_≡_}
 use mathlib.Core.List.{List, _++_}
@@ -37,5 +37,7 @@ pub record Demand3 (q : Request) (taken : Kind → Type 0) (before : List ℕ) (
   pub ten : RequestInRange q → RequestCovered q → (s : List ℕ) → Best q taken s → Exactly (n ≡ 10) (length before < length s)
   -- else 0, and it is written
   pub zero : RequestInRange q → RequestCovered q → (s : List ℕ) → Best q taken s → length s ≤ length before → (n ≡ 0) × StandsIn s before long after
+  -- with room for 14 octets it is never 10
+  pub roomy : 14 ≤ length before → n ≡ 10 → ⊥
   -- on a refusal the whole buffer is as it was
   pub kept : (n ≡ 0 → ⊥) → (long ≡ 0) × (after ≡ before)

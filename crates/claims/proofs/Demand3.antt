@@ -8,7 +8,8 @@ use Rattle.layout.specs.declared.shape.Kind.{Kind}
 use Rattle.layout.specs.Shapes.{shapeIn}
 use Rattle.requests.specs.declared.Request.{Request}
 use Rattle.requests.specs.Choice.{Candidate, Better, Best, out-of-range, too-uncertain, none-holds, Chosen, refuses, too-short, writes}
-use Rattle.claims.specs.Demand.{StandsIn, Demand3}
+use Rattle.claims.specs.Demand3.{StandsIn, Demand3}
+use Rattle.requests.proofs.BestLaws.{at-most-14}
 use Rattle.requests.proofs.OneMessage.{best-one}
 
 module _ (q : Request) (taken : Kind → Type 0) (before : List ℕ) where
@@ -20,6 +21,7 @@ module _ (q : Request) (taken : Kind → Type 0) (before : List ℕ) where
     some = λ r. absurd (f r);
     ten = λ r. absurd (f r);
     zero = λ r. absurd (f r);
+    roomy = λ l e. absurd (omega arith);
     kept = λ e. (refl, refl);
   }
   demand-3 (refuses (too-uncertain r f)) = record {
@@ -29,6 +31,7 @@ module _ (q : Request) (taken : Kind → Type 0) (before : List ℕ) where
     some = λ t c. absurd (f c);
     ten = λ t c. absurd (f c);
     zero = λ t c. absurd (f c);
+    roomy = λ l e. absurd (omega arith);
     kept = λ e. (refl, refl);
   }
   demand-3 (refuses (none-holds r c f)) = record {
@@ -38,6 +41,7 @@ module _ (q : Request) (taken : Kind → Type 0) (before : List ℕ) where
     some = λ t d s h. absurd (f s h);
     ten = λ t d s b. absurd (f s (b .candidate));
     zero = λ t d s b. absurd (f s (b .candidate));
+    roomy = λ l e. absurd (omega arith);
     kept = λ e. (refl, refl);
   }
   demand-3 (too-short {s = m} r c b l) = record {
@@ -47,6 +51,7 @@ module _ (q : Request) (taken : Kind → Type 0) (before : List ℕ) where
     some = λ t d s h. record { message = m; is-best = b };
     ten = λ t d s a. record { only = λ e. subst (λ (u : List ℕ). length before < length u) (best-one q taken m s b a) l; if = λ h. refl };
     zero = λ t d s a h. absurd (omega (arith, ap length (best-one q taken m s b a)));
+    roomy = λ h e. absurd (omega (arith, at-most-14 m (b .candidate)));
     kept = λ e. (refl, refl);
   }
   demand-3 (writes {s = m} r c b l) = record {
@@ -56,6 +61,7 @@ module _ (q : Request) (taken : Kind → Type 0) (before : List ℕ) where
     some = λ t d s h. record { message = m; is-best = b };
     ten = λ t d s a. record { only = λ e. absurd (omega arith); if = λ h. absurd (omega (arith, ap length (best-one q taken m s b a))) };
     zero = λ t d s a h. (refl, subst (λ (u : List ℕ). StandsIn u before (length m) (m ++ drop (length m) before)) (best-one q taken m s b a) (record { length-is = refl; buffer = refl }));
+    roomy = λ h e. absurd (omega arith);
     kept = λ e. absurd (e refl);
   }
 
@@ -74,5 +80,5 @@ pub best-in-kind : (q : Request) (taken : Kind → Type 0) (s : List ℕ) → Be
 best-in-kind q taken s a = record {
   candidate = record { octets = a .candidate .octets; readable = a .candidate .readable; part = a .candidate .part; listed = refl; holds = a .candidate .holds };
   none-better = λ t h. a .none-better t (candidate-more q (λ k. k ≡ shapeIn s .kind) taken (λ k e. subst taken (sym e) (a .candidate .listed)) t h);
-  spare-zero = a .spare-zero;
+  own = a .own;
 }
