@@ -1,4 +1,4 @@
--- `quantity::longitude` meets its contract: there is a element, and it holds the code's bits.
+-- `quantity::longitude` meets its contract: there is an element, and it holds the code's bits.
 use mathlib.Core.Path.{refl}
 use native.Mathlib.Omega.{arith}
 use Rattle.field_arrays.specs.Fields.{too-short, reported}
