@@ -79,7 +79,7 @@ module _ (elements : List ℤ) where
         ap {A = Nanodegrees} (λ x. x .0) (sym (longitude-at i l) ∙ kept i .no-longitudes (le-ltb i n h)),
       )
 
-      -- a element is its point's latitude or longitude
+      -- an element is its point's latitude or longitude
       pub none-kept : NoQuantitiesFrom elements (14 + 2 * n)
       none-kept at h l = by (eqb (at % 2) 0) refl
         where

@@ -16,7 +16,7 @@ use Rattle.requests.specs.declared.AltitudeUncertainty.the-variants as height
 use Rattle.code_arrays.specs.QuantityNumbers.{quantityIn, missing, Signed32}
 use Rattle.library.specs.Requests.{ElementSaysAltitude, ElementsSayHorizontal, ElementSaysUncertainty, ElementSaysConfidence, ElementsSay}
 
--- by the number of a element; no number is below 0, and the mark of a missing one is
+-- by the number of an element; no number is below 0, and the mark of a missing one is
 abbrev pub byNumber : {A : Type 0} → (ℕ → A) → A → ℤ → A
 byNumber given none (pos n) = given n
 byNumber given none (negsuc n) = none

@@ -177,7 +177,7 @@ module _ (z : ℤ) (f : SFits w64 z) where
     pub signed-is : toZ w32 (ofZ w32 (toZ w64 (ofZ w64 z))) ≡ signedOf z
     signed-is = toZ-ofZ signed-fits ∙ toZ-ofZ f ∙ simp (lt-ltb (mag z) 2147483648 small)
 
--- ---- a element that was read is what it was
+-- ---- an element that was read is what it was
 
 pub element-read : {z : ℤ} → mag z < 9223372036854775808 → toZ w64 (ofZ w64 z) ≡ z
 element-read h = toZ-ofZ {w = w64} (record { sfits = h })

@@ -6,7 +6,7 @@ use lib.Dec.{ltb}
 use lib.IntN.{ℤ, pos, negsuc}
 use lib.ListN.{getD}
 
--- the number in a element
+-- the number in an element
 abbrev pub elementAt : List ℕ → ℕ → ℕ
 elementAt elements i = getD elements i 0
 

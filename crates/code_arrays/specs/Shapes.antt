@@ -1,4 +1,4 @@
--- A SHAPE'S CODES IN 61 CELLS.
+-- A SHAPE'S CODES IN 61 ELEMENTS.
 use mathlib.Core.Path.{_≡_}
 use mathlib.Core.List.{List, [], _∷_, _++_}
 use Prim.Native.Nat.{ℕ, zero, suc, _+_, _*_, _≤_}

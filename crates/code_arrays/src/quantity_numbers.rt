@@ -76,7 +76,7 @@ pub fn signed(element: Whole) -> Narrow
     Narrow(x as i32)
 }
 
-// A number of 32 bits in a element.
+// A number of 32 bits in an element.
 pub fn wide(n: u32) -> Whole
     ensures { λ r. ⌜ r .0 ≡ pos n ⌝ }
 {

@@ -1,4 +1,4 @@
--- THE REQUEST IN EIGHT CELLS.
+-- THE REQUEST IN EIGHT ELEMENTS.
 use mathlib.Core.Path.{_≡_}
 use mathlib.Core.List.{List}
 use Prim.Native.Nat.{ℕ, _<_, _^_}
@@ -26,7 +26,7 @@ use Rattle.library.specs.declared.request.UncertaintyRead.the-variants a
 use Rattle.library.specs.declared.request.ConfidenceRead.{ConfidenceRead}
 use Rattle.library.specs.declared.request.ConfidenceRead.the-variants as confidence
 
--- ---- what a element says
+-- ---- what an element says
 
 -- n, which 32 bits without a sign hold
 pub record SaysNatural (z : ℤ) (n : ℕ) : Type 0 where

@@ -43,7 +43,7 @@ not-missing (pos n) h = refl
 not-missing (negsuc n) h = ne-eqb n 9223372036854775807 (λ e. h (ap negsuc e))
 
 module _ (z : ℤ) where
-  -- what is made of a element: `none` where it is missing, `some` of its number where it isn't
+  -- what is made of an element: `none` where it is missing, `some` of its number where it isn't
   module _ {A : Type 0} (none : A) (some : ℕ → A) where
     pub absent : z ≡ missing → none ≡ cond (isMissing z) none (some (naturalOf z))
     absent e = sym (ap (λ (t : Bool). cond t none (some (naturalOf z))) (is-missing z e))

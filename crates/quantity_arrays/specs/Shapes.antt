@@ -1,4 +1,4 @@
--- A SHAPE'S QUANTITIES IN 44 CELLS.
+-- A SHAPE'S QUANTITIES IN 44 ELEMENTS.
 use mathlib.Core.List.{List, [], _∷_, _++_}
 use Prim.Native.Nat.{ℕ, zero, suc, _+_, _*_, _≤_, _<_}
 use lib.IntN.{ℤ, pos}

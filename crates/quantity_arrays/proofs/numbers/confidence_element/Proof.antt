@@ -1,4 +1,4 @@
--- `quantity_arrays::numbers::confidence_element` meets its contract: a number in a element, or the mark that there is none.
+-- `quantity_arrays::numbers::confidence_element` meets its contract: a number in an element, or the mark that there is none.
 use borrow.Author.Needs.{needs}
 use Rattle.quantity_arrays.proofs.numbers.confidence_element.Statement.{statement}
 use Rattle.quantity_arrays.proofs.numbers.confidence_element.Tie as tie

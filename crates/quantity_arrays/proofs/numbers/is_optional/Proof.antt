@@ -1,4 +1,4 @@
--- `quantity_arrays::numbers::is_optional` meets its contract: a element that is missing, or else a number of 32 bits.
+-- `quantity_arrays::numbers::is_optional` meets its contract: an element that is missing, or else a number of 32 bits.
 use Rattle.quantity_arrays.proofs.ArrayLaws.{optional-by}
 use borrow.Author.Needs.{needs}
 use Rattle.quantity_arrays.proofs.numbers.is_optional.Statement.{statement}
