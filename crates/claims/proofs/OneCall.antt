@@ -35,10 +35,9 @@ use Rattle.code_arrays.specs.Shapes.{shapeElements, arrayRows, valueIn, recordI
 use Rattle.code_arrays.specs.Velocities.{velocityElements, arrayVelocityRows, velocityValueIn, velocityRecordIn}
 use Rattle.quantity_arrays.specs.Shapes.{quantityElements, quantitiesIn}
 use Rattle.quantity_arrays.specs.Velocities.{velocityQuantityElements, velocityQuantitiesIn}
-use Rattle.field_arrays.specs.Fields.{toldOutcome}
-use Rattle.field_arrays.specs.Fields as single
+use Rattle.field_arrays.specs.Fields.{saidCodeOutcome, saidCodeElements, saidQuantityOutcome, saidQuantityElements}
 use Rattle.array_records.specs.Records.{CodeElementsAnswer}
-use Rattle.library.specs.Promises.{ReadsShapeInto, ReadsVelocityInto, WritesTold, WritesShapeFrom, WritesVelocityFrom, ReportsShapeFrom, ReportsVelocityFrom, CodesShapeFrom, CodesVelocityFrom, ChoosesIn, no-request, chosen, ChoosesFrom, CodesOne, ReportsOne}
+use Rattle.library.specs.Promises.{ReadsShapeInto, ReadsVelocityInto, WritesSaid, WritesShapeFrom, WritesVelocityFrom, ReportsShapeFrom, ReportsVelocityFrom, CodesShapeFrom, CodesVelocityFrom, ChoosesIn, no-request, chosen, ChoosesFrom, CodesOne, ReportsOne}
 use Rattle.claims.proofs.OneRequest.{request-one}
 use Rattle.claims.proofs.OneField.{codes-field-one, reports-field-one}
 
@@ -71,21 +70,21 @@ reads-velocity-one s before after after′ n n′ a b =
 
 -- ---- writing
 
-told-one : {w v : Written} {n n′ : ℤ} → w ≡ v → n ≡ answerOf (w .outcome) (w .length) → n′ ≡ answerOf (v .outcome) (v .length) → n ≡ n′
-told-one e p q = p ∙ ap (λ (w : Written). answerOf (w .outcome) (w .length)) e ∙ sym q
+answer-said-one : {w v : Written} {n n′ : ℤ} → w ≡ v → n ≡ answerOf (w .outcome) (w .length) → n′ ≡ answerOf (v .outcome) (v .length) → n ≡ n′
+answer-said-one e p q = p ∙ ap (λ (w : Written). answerOf (w .outcome) (w .length)) e ∙ sym q
 
 module _ (rows : List Row) (value : MessageField → ℕ) (before after after′ : List ℕ) (n n′ : ℤ) where
-  writes-told-one : WritesTold rows value before after n → WritesTold rows value before after′ n′ → (n ≡ n′) × (after ≡ after′)
-  writes-told-one a b = (
-    told-one (writes-one rows value before after after′ (a .written) (b .written) (a .promise) (b .promise)) (a .told) (b .told),
+  writes-said-one : WritesSaid rows value before after n → WritesSaid rows value before after′ n′ → (n ≡ n′) × (after ≡ after′)
+  writes-said-one a b = (
+    answer-said-one (writes-one rows value before after after′ (a .written) (b .written) (a .promise) (b .promise)) (a .said) (b .said),
     buffer-one rows value before after after′ (a .written) (b .written) (a .promise) (b .promise),
   )
 
 pub writes-shape-one : (elements before after after′ : List ℕ) (n n′ : ℤ) → WritesShapeFrom elements before after n → WritesShapeFrom elements before after′ n′ → (n ≡ n′) × (after ≡ after′)
-writes-shape-one elements before after after′ n n′ a b = of-array-one a b (writes-told-one (arrayRows elements) (valueIn elements) before after after′ n n′)
+writes-shape-one elements before after after′ n n′ a b = of-array-one a b (writes-said-one (arrayRows elements) (valueIn elements) before after after′ n n′)
 
 pub writes-velocity-one : (elements before after after′ : List ℕ) (n n′ : ℤ) → WritesVelocityFrom elements before after n → WritesVelocityFrom elements before after′ n′ → (n ≡ n′) × (after ≡ after′)
-writes-velocity-one elements before after after′ n n′ a b = of-array-one a b (writes-told-one (arrayVelocityRows elements) (velocityValueIn elements) before after after′ n n′)
+writes-velocity-one elements before after after′ n n′ a b = of-array-one a b (writes-said-one (arrayVelocityRows elements) (velocityValueIn elements) before after after′ n n′)
 
 -- ---- reporting
 
@@ -132,7 +131,7 @@ chosen-one elements list before after after′ n n′ (no-request h a b) (chosen
 chosen-one elements list before after after′ n n′ (chosen {q = q} w s c t) (no-request h a b) = absurd (h q s)
 chosen-one elements list before after after′ n n′ (chosen {q = q} w s c t) (chosen {q = q′} w′ s′ c′ t′) =
     let d = subst (λ (r : Request). Chooses r (receiver.Listed list) before after′ w′) (request-one elements q′ q s′ s) c′ in
-    (told-one (demands.chooses-one q (receiver.Listed list) before after after′ w w′ c d) t t′, demands.chosen-buffer-one q (receiver.Listed list) before after after′ w w′ c d)
+    (answer-said-one (demands.chooses-one q (receiver.Listed list) before after after′ w w′ c d) t t′, demands.chosen-buffer-one q (receiver.Listed list) before after after′ w w′ c d)
 
 pub chooses-one : (elements : List ℤ) (list : ℕ) (before after after′ : List ℕ) (n n′ : ℤ) → ChoosesFrom elements list before after n → ChoosesFrom elements list before after′ n′ → (n ≡ n′) × (after ≡ after′)
 chooses-one elements list before after after′ n n′ a b = of-array-one a b (chosen-one elements list before after after′ n n′)
@@ -142,9 +141,9 @@ chooses-one elements list before after after′ n n′ a b = of-array-one a b (c
 pub codes-one : (field : ℕ) (quantity : ℤ) (before after after′ : List ℕ) (n n′ : ℤ) → CodesOne field quantity before after n → CodesOne field quantity before after′ n′ → (n ≡ n′) × (after ≡ after′)
 codes-one field quantity before after after′ n n′ a b =
     let e = codes-field-one (a .promise) (b .promise) in
-    puts-one (ap toldOutcome e) (ap single.toldCodeElements e) (a .put) (b .put)
+    puts-one (ap saidCodeOutcome e) (ap saidCodeElements e) (a .put) (b .put)
 
 pub reports-one : (field : ℕ) (code : List ℕ) (before after after′ : List ℤ) (n n′ : ℤ) → ReportsOne field code before after n → ReportsOne field code before after′ n′ → (n ≡ n′) × (after ≡ after′)
 reports-one field code before after after′ n n′ a b =
     let e = reports-field-one (a .promise) (b .promise) in
-    puts-one (ap toldOutcome e) (ap single.toldQuantityElements e) (a .put) (b .put)
+    puts-one (ap saidQuantityOutcome e) (ap saidQuantityElements e) (a .put) (b .put)

@@ -1,4 +1,4 @@
--- Of one field one thing is told: a number is of one field or none, an element says one quantity or none, and a code's elements one code
+-- Of one field one thing is said: a number is of one field or none, an element says one quantity or none, and a code's elements one code
 -- or none.
 use Prim.Native.Nat.{ℕ, _≤_}
 use mathlib.Core.Path.{_≡_, sym, ap, subst, _∙_}
@@ -10,15 +10,16 @@ use Rattle.ground.specs.declared.quantity.UncertaintySpeed.{UncertaintySpeed}
 use Rattle.ground.specs.declared.quantity.UncertaintySpeed.the-variants as uncertain
 use Rattle.ground.specs.declared.quantity.Confidence.{Confidence}
 use Rattle.ground.specs.declared.quantity.Confidence.the-variants as confident
-use Rattle.ground.specs.declared.told.Told.{Told}
+use Rattle.ground.specs.declared.said.SaidCode.{SaidCode}
+use Rattle.ground.specs.declared.said.SaidQuantity.{SaidQuantity}
 use Rattle.fields.specs.Fields.{Field, latitude, longitude, uncertainty, altitudeUncertainty, altitude, innerRadius, offset, included, orientation, bearing, horizontalSpeed, verticalSpeed, uncertaintySpeed, confidence, CodeOf, QuantityOf}
 use Rattle.fields.specs.Places.{placeOf}
 use Rattle.fields.proofs.PlaceLaws.{place-one, past-places}
 use Rattle.one_field.specs.Coding as coding
 use Rattle.one_field.specs.Coding.{countOf}
-use Rattle.one_field.proofs.OneCode as coded
+use Rattle.one_field.proofs.OneCode.{tells-code-one}
 use Rattle.one_field.specs.Reporting as reporting
-use Rattle.one_field.proofs.OneQuantity as reported
+use Rattle.one_field.proofs.OneQuantity.{tells-quantity-one}
 use Rattle.field_arrays.specs.Fields.{IsNatural, IsSigned, IsUncertaintySpeed, IsConfidence, QuantityArrives, CodesElement, outside, CodesField, IsCode, SaysCode, ReportsElements, too-short, no-code, ReportsField}
 use Rattle.field_arrays.specs.Fields as single
 use Rattle.claims.proofs.OneRequest.{byNumber, confidenceIn}
@@ -84,36 +85,36 @@ saying verticalSpeed elements c d s t = (λ i. record { 0 = (s .sign ∙ sym (t 
 saying uncertaintySpeed elements c d s t = (λ i. record { 0 = code-one s t i }, s .one)
 saying confidence elements c d s t = (λ i. record { 0 = code-one s t i }, s .one)
 
--- ---- what is told
+-- ---- what is said
 
-told-code-one : {f : Field} {z : ℤ} {a b : Told} → CodesElement f z a → CodesElement f z b → a ≡ b
-told-code-one (outside h e) (outside h′ e′) = e ∙ sym e′
-told-code-one (outside h e) (single.coded {x = x} s t) = absurd (h x s)
-told-code-one (single.coded {x = x} s t) (outside h e) = absurd (h x s)
-told-code-one {f} {z} {a} {b} (single.coded {x = x} s t) (single.coded {x = y} s′ t′) =
-    coded.told-one f x a b t (subst (λ (w : QuantityOf f). coding.TellsCode f w b) (quantity-one f z y x s′ s) t′)
+codes-element-one : {f : Field} {z : ℤ} {a b : SaidCode} → CodesElement f z a → CodesElement f z b → a ≡ b
+codes-element-one (outside h e) (outside h′ e′) = e ∙ sym e′
+codes-element-one (outside h e) (single.coded {x = x} s t) = absurd (h x s)
+codes-element-one (single.coded {x = x} s t) (outside h e) = absurd (h x s)
+codes-element-one {f} {z} {a} {b} (single.coded {x = x} s t) (single.coded {x = y} s′ t′) =
+    tells-code-one f x a b t (subst (λ (w : QuantityOf f). coding.TellsCode f w b) (quantity-one f z y x s′ s) t′)
 
-pub codes-field-one : {n : ℕ} {z : ℤ} {a b : Told} → CodesField n z a → CodesField n z b → a ≡ b
+pub codes-field-one : {n : ℕ} {z : ℤ} {a b : SaidCode} → CodesField n z a → CodesField n z b → a ≡ b
 codes-field-one (single.no-field h e) (single.no-field h′ e′) = e ∙ sym e′
 codes-field-one (single.no-field h e) (single.of-field {f = f} d c) = absurd (past-places f h d)
 codes-field-one (single.of-field {f = f} d c) (single.no-field h e) = absurd (past-places f h d)
-codes-field-one {z = z} {b = b} (single.of-field {f = f} d c) (single.of-field {f = g} e c′) = told-code-one c (subst (λ (k : Field). CodesElement k z b) (field-one g f e d) c′)
+codes-field-one {z = z} {b = b} (single.of-field {f = f} d c) (single.of-field {f = g} e c′) = codes-element-one c (subst (λ (k : Field). CodesElement k z b) (field-one g f e d) c′)
 
-told-quantity-one : {f : Field} {elements : List ℕ} {a b : Told} → ReportsElements f elements a → ReportsElements f elements b → a ≡ b
-told-quantity-one (too-short h e) (too-short h′ e′) = e ∙ sym e′
-told-quantity-one (too-short h e) (no-code l h′ e′) = absurd (omega arith)
-told-quantity-one {f} {elements} (too-short h e) (single.reported {c = c} s t) = absurd (omega (arith, saying f elements c c s s .1))
-told-quantity-one (no-code l h e) (too-short h′ e′) = absurd (omega arith)
-told-quantity-one (no-code l h e) (no-code l′ h′ e′) = e ∙ sym e′
-told-quantity-one (no-code l h e) (single.reported {c = c} s t) = absurd (h c s)
-told-quantity-one {f} {elements} (single.reported {c = c} s t) (too-short h e) = absurd (omega (arith, saying f elements c c s s .1))
-told-quantity-one (single.reported {c = c} s t) (no-code l h e) = absurd (h c s)
-told-quantity-one {f} {elements} {a} {b} (single.reported {c = c} s t) (single.reported {c = d} s′ t′) =
-    reported.told-one f c a b t (subst (λ (k : CodeOf f). reporting.TellsQuantity f k b) (saying f elements d c s′ s .0) t′)
+reports-elements-one : {f : Field} {elements : List ℕ} {a b : SaidQuantity} → ReportsElements f elements a → ReportsElements f elements b → a ≡ b
+reports-elements-one (too-short h e) (too-short h′ e′) = e ∙ sym e′
+reports-elements-one (too-short h e) (no-code l h′ e′) = absurd (omega arith)
+reports-elements-one {f} {elements} (too-short h e) (single.reported {c = c} s t) = absurd (omega (arith, saying f elements c c s s .1))
+reports-elements-one (no-code l h e) (too-short h′ e′) = absurd (omega arith)
+reports-elements-one (no-code l h e) (no-code l′ h′ e′) = e ∙ sym e′
+reports-elements-one (no-code l h e) (single.reported {c = c} s t) = absurd (h c s)
+reports-elements-one {f} {elements} (single.reported {c = c} s t) (too-short h e) = absurd (omega (arith, saying f elements c c s s .1))
+reports-elements-one (single.reported {c = c} s t) (no-code l h e) = absurd (h c s)
+reports-elements-one {f} {elements} {a} {b} (single.reported {c = c} s t) (single.reported {c = d} s′ t′) =
+    tells-quantity-one f c a b t (subst (λ (k : CodeOf f). reporting.TellsQuantity f k b) (saying f elements d c s′ s .0) t′)
 
-pub reports-field-one : {n : ℕ} {elements : List ℕ} {a b : Told} → ReportsField n elements a → ReportsField n elements b → a ≡ b
+pub reports-field-one : {n : ℕ} {elements : List ℕ} {a b : SaidQuantity} → ReportsField n elements a → ReportsField n elements b → a ≡ b
 reports-field-one (single.no-field h e) (single.no-field h′ e′) = e ∙ sym e′
 reports-field-one (single.no-field h e) (single.of-field {f = f} d c) = absurd (past-places f h d)
 reports-field-one (single.of-field {f = f} d c) (single.no-field h e) = absurd (past-places f h d)
 reports-field-one {elements = elements} {b = b} (single.of-field {f = f} d c) (single.of-field {f = g} e c′) =
-    told-quantity-one c (subst (λ (k : Field). ReportsElements k elements b) (field-one g f e d) c′)
+    reports-elements-one c (subst (λ (k : Field). ReportsElements k elements b) (field-one g f e d) c′)

@@ -1,4 +1,4 @@
--- A VELOCITY'S CODES IN 7 CELLS.
+-- A VELOCITY'S CODES IN 7 ELEMENTS.
 use mathlib.Core.List.{List, [], _∷_}
 use Prim.Native.Nat.{ℕ, _≤_}
 use lib.Dec.{eqb}

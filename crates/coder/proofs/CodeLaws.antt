@@ -11,7 +11,7 @@ use Rattle.ground.specs.declared.quantity.UncertaintySpeed.{UncertaintySpeed}
 use Rattle.ground.specs.declared.quantity.UncertaintySpeed.the-variants as uncertain
 use Rattle.ground.specs.declared.quantity.Confidence.{Confidence}
 use Rattle.ground.specs.declared.quantity.Confidence.the-variants as confident
-use Rattle.ground.specs.declared.told.Told.{Told}
+use Rattle.ground.specs.declared.said.SaidCode.{SaidCode}
 use Rattle.fields.specs.Fields.{Field, latitude, longitude, uncertainty, altitudeUncertainty, altitude, innerRadius, offset, included, orientation, bearing, horizontalSpeed, verticalSpeed, uncertaintySpeed, confidence, QuantityOf}
 use Rattle.one_field.specs.declared.coding.Coordinate.{Coordinate}
 use Rattle.one_field.specs.declared.coding.Coordinate.the-variants as coordinate
@@ -20,9 +20,9 @@ use Rattle.one_field.specs.declared.coding.Unsigned.the-variants as unsigned
 use Rattle.one_field.specs.Coding.{TellsCoordinate, TellsUnsigned}
 use Rattle.text.specs.LineFields.{IsAbsent, SaysSigned, SaysUnsigned, fieldsOf, SaysConfidence}
 use Rattle.text.proofs.LineFieldLaws.{alone, number-uncut}
-use Rattle.text.specs.AnswerLines.{printedOf}
-use Rattle.text.specs.declared.printed.Printed.{Printed}
-use Rattle.text.specs.declared.printed.Printed.the-variants.{Unreadable}
+use Rattle.text.specs.AnswerLines.{lineOfCode}
+use Rattle.text.specs.declared.said.SaidLine.{SaidLine}
+use Rattle.text.specs.declared.said.SaidLine.the-variants.{Unreadable}
 use Rattle.fields.specs.Places.{placeOf}
 use Rattle.coder.specs.Written.{TextSays, WritesUncertaintySpeed}
 use Rattle.coder.specs.FieldTexts.{CodesText, coded, no-quantity, coordinateField, CodesUnsigned}
@@ -36,7 +36,7 @@ unwritten f text h = no-quantity (λ t x e w. h x (subst (λ (s : List ℕ). Tex
 
 -- ---- coordinates
 
-pub coordinate-coded : (k : Coordinate) {text : List ℕ} {x : ℤ} (a : Told) {r : Printed} → SaysSigned 64 text x → TellsCoordinate k (record { 0 = x }) a → r ≡ printedOf a → CodesText (coordinateField k) (fieldsOf text) r
+pub coordinate-coded : (k : Coordinate) {text : List ℕ} {x : ℤ} (a : SaidCode) {r : SaidLine} → SaysSigned 64 text x → TellsCoordinate k (record { 0 = x }) a → r ≡ lineOfCode a → CodesText (coordinateField k) (fieldsOf text) r
 coordinate-coded coordinate.Latitude {text} a s t p = coded (number-uncut text (s .means)) s t p
 coordinate-coded coordinate.Longitude {text} a s t p = coded (number-uncut text (s .means)) s t p
 
@@ -55,7 +55,7 @@ module _ (text : List ℕ) (h : (n : ℕ) → SaysUnsigned text n → ⊥) (d : 
   no-confidence (confident.PerCent p) w = h p w
   no-confidence confident.Missing w = d w
 
-pub unsigned-coded : (k : Unsigned) {text : List ℕ} {n : ℕ} (a : Told) {r : Printed} → SaysUnsigned text n → TellsUnsigned k n a → r ≡ printedOf a → CodesUnsigned k text r
+pub unsigned-coded : (k : Unsigned) {text : List ℕ} {n : ℕ} (a : SaidCode) {r : SaidLine} → SaysUnsigned text n → TellsUnsigned k n a → r ≡ lineOfCode a → CodesUnsigned k text r
 unsigned-coded unsigned.Uncertainty {text} a s t p = coded (number-uncut text (s .means)) s t p
 unsigned-coded unsigned.AltitudeUncertainty {text} a s t p = coded (number-uncut text (s .means)) s t p
 unsigned-coded unsigned.InnerRadius {text} a s t p = coded (number-uncut text (s .means)) s t p

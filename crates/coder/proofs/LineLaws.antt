@@ -7,8 +7,8 @@ use lib.IntN.{ℤ}
 use lib.ListN.{length}
 use Rattle.fields.specs.Fields.{Field, latitude, longitude, uncertainty, altitudeUncertainty, altitude, innerRadius, offset, included, orientation, bearing, horizontalSpeed, verticalSpeed, uncertaintySpeed, confidence, QuantityOf}
 use Rattle.text.specs.LineFields.{fieldsOf}
-use Rattle.text.specs.declared.printed.Printed.{Printed}
-use Rattle.text.specs.declared.printed.Printed.the-variants.{Unreadable}
+use Rattle.text.specs.declared.said.SaidLine.{SaidLine}
+use Rattle.text.specs.declared.said.SaidLine.the-variants.{Unreadable}
 use Rattle.coder.specs.Names.{codeVerb, reportVerb, nameOf, Placed}
 use Rattle.one_field.specs.Coding.{countOf}
 use Rattle.coder.specs.Written.{TextSays, WriteNumbers, none, more}
@@ -82,10 +82,10 @@ module _ {line word name : List ℕ} {rest : List (List ℕ)} (e : fieldsOf line
     no-report : (f : Field) (zs : List ℤ) → SaysNumbers line f zs → ⊥
     no-report f zs s = verbs-apart (sym v ∙ reporting-word s)
 
-    code-field : (f : Field) → name ≡ nameOf f → {r : Printed} → texts.CodesText f rest r → Answers line r
-    code-field f n (texts.coded {text = t} q w told p) =
+    code-field : (f : Field) → name ≡ nameOf f → {r : SaidLine} → texts.CodesText f rest r → Answers line r
+    code-field f n (texts.coded {text = t} q w tells p) =
         let a : fieldsOf line ≡ codeVerb ∷ nameOf f ∷ t ∷ [] = cc in
-        lines.coded {f = f} (record { text = t; fields = a; writes = w }) told p
+        lines.coded {f = f} (record { text = t; fields = a; writes = w }) tells p
     code-field f n {r} (texts.no-quantity h p) = unreadable other no-report p
       where
         other : (g : Field) (x : QuantityOf g) → SaysQuantity line g x → ⊥
@@ -94,7 +94,7 @@ module _ {line word name : List ℕ} {rest : List (List ℕ)} (e : fieldsOf line
             same : (k : Field) → ((t : List ℕ) (y : QuantityOf k) → rest ≡ t ∷ [] → TextSays k t y → ⊥) → g ≡ k → ⊥
             same k h e = subst (λ (j : Field). ((t : List ℕ) (y : QuantityOf j) → rest ≡ t ∷ [] → TextSays j t y → ⊥)) (sym e) h (s .text) x (coding-rest s) (s .writes)
 
-    pub code-line : {place : ℕ} {r : Printed} → Placed name place → texts.CodesAt place rest r → Answers line r
+    pub code-line : {place : ℕ} {r : SaidLine} → Placed name place → texts.CodesAt place rest r → Answers line r
     code-line p (texts.CodesAt.of-field {f = f} q c) = code-field f (p .named f q) c
     code-line p (texts.CodesAt.no-field h q) = unreadable (λ f x s. h f (p .placed f (coding-name s))) no-report q
 
@@ -105,8 +105,8 @@ module _ {line word name : List ℕ} {rest : List (List ℕ)} (e : fieldsOf line
     says : (f : Field) → name ≡ nameOf f → {zs : List ℤ} → WriteNumbers rest zs → length zs ≡ countOf f → SaysNumbers line f zs
     says f n w l = record { texts = rest; fields = cc; numbers = w; count = l }
 
-    report-field : (f : Field) → name ≡ nameOf f → {r : Printed} → texts.ReportsText f rest r → Answers line r
-    report-field f n (texts.reported {c = c} w told p) = lines.reported {c = c} (says f n w (counted f c)) told p
+    report-field : (f : Field) → name ≡ nameOf f → {r : SaidLine} → texts.ReportsText f rest r → Answers line r
+    report-field f n (texts.reported {c = c} w tells p) = lines.reported {c = c} (says f n w (counted f c)) tells p
     report-field f n (texts.no-code w l h p) = lines.no-code (says f n w l) h p
     report-field f n {r} (texts.no-numbers h p) = unreadable no-coding other p
       where
@@ -115,6 +115,6 @@ module _ {line word name : List ℕ} {rest : List (List ℕ)} (e : fieldsOf line
             let q : countOf g ≡ countOf f = ap countOf (name-one g f (sym (reporting-name s) ∙ n)) in
             h zs (subst (λ (ts : List (List ℕ)). WriteNumbers ts zs) (sym (reporting-rest s)) (s .numbers)) (s .count ∙ q)
 
-    pub report-line : {place : ℕ} {r : Printed} → Placed name place → texts.ReportsAt place rest r → Answers line r
+    pub report-line : {place : ℕ} {r : SaidLine} → Placed name place → texts.ReportsAt place rest r → Answers line r
     report-line p (texts.ReportsAt.of-field {f = f} q c) = report-field f (p .named f q) c
     report-line p (texts.ReportsAt.no-field h q) = unreadable no-coding (λ f zs s. h f (p .placed f (reporting-name s))) q

@@ -12,13 +12,13 @@ use Rattle.ground.specs.declared.quantity.UncertaintySpeed.the-variants as unce
 use Rattle.fields.specs.Fields.{Field, latitude, longitude, uncertainty, altitudeUncertainty, altitude, innerRadius, offset, included, orientation, bearing, horizontalSpeed, verticalSpeed, uncertaintySpeed, confidence, CodeOf, QuantityOf}
 use Rattle.fields.proofs.PlaceLaws.{place-one}
 use Rattle.one_field.specs.Coding as coding
-use Rattle.one_field.proofs.OneCode as coded
+use Rattle.one_field.proofs.OneCode.{tells-code-one}
 use Rattle.one_field.specs.Reporting as reporting
-use Rattle.one_field.proofs.OneQuantity as reported
+use Rattle.one_field.proofs.OneQuantity.{tells-quantity-one}
 use Rattle.text.proofs.WidthLaws.{means-one}
 use Rattle.text.proofs.SaysLaws.{signed-one, unsigned-one, unsigned-dash, confidence-one}
-use Rattle.text.specs.AnswerLines.{printedOf}
-use Rattle.text.specs.declared.printed.Printed.{Printed}
+use Rattle.text.specs.AnswerLines.{lineOfCode, lineOfQuantity}
+use Rattle.text.specs.declared.said.SaidLine.{SaidLine}
 use Rattle.one_field.specs.Coding.{countOf}
 use Rattle.coder.specs.Written.{TextSays, WritesUncertaintySpeed, WriteNumbers, none, more, signedNumbers, numbersOf}
 use Rattle.coder.specs.FieldTexts.{CodesText, no-quantity, CodesAt, ReportsText, no-code, no-numbers, ReportsAt}
@@ -104,27 +104,27 @@ counted verticalSpeed c = refl
 counted uncertaintySpeed c = refl
 counted confidence c = refl
 
--- ---- what is printed
+-- ---- what is said
 
-codes-one : (f : Field) {ts : List (List ℕ)} {a b : Printed} → CodesText f ts a → CodesText f ts b → a ≡ b
-codes-one f (texts.coded {text = t} {x = x} {told = u} e w c p) (texts.coded {text = s} {x = y} {told = v} d i j q) =
+codes-one : (f : Field) {ts : List (List ℕ)} {a b : SaidLine} → CodesText f ts a → CodesText f ts b → a ≡ b
+codes-one f (texts.coded {text = t} {x = x} {said = u} e w c p) (texts.coded {text = s} {x = y} {said = v} d i j q) =
     let same : s ≡ t = cc in
     let z : y ≡ x = quantity-one f t y x (subst (λ (k : List ℕ). TextSays f k y) same i) w in
-    p ∙ ap printedOf (coded.told-one f x u v c (subst (λ (k : QuantityOf f). coding.TellsCode f k v) z j)) ∙ sym q
+    p ∙ ap lineOfCode (tells-code-one f x u v c (subst (λ (k : QuantityOf f). coding.TellsCode f k v) z j)) ∙ sym q
 codes-one f (texts.coded {text = t} {x = x} e w c p) (no-quantity h q) = absurd (h t x e w)
 codes-one f (no-quantity h p) (texts.coded {text = t} {x = x} e w c q) = absurd (h t x e w)
 codes-one f (no-quantity h p) (no-quantity i q) = p ∙ sym q
 
-pub codes-at-one : {place : ℕ} {ts : List (List ℕ)} {a b : Printed} → CodesAt place ts a → CodesAt place ts b → a ≡ b
+pub codes-at-one : {place : ℕ} {ts : List (List ℕ)} {a b : SaidLine} → CodesAt place ts a → CodesAt place ts b → a ≡ b
 codes-at-one {ts = ts} {b = b} (texts.CodesAt.of-field {f = f} p c) (texts.CodesAt.of-field {f = g} q d) =
     codes-one f c (subst (λ (k : Field). CodesText k ts b) (place-one g f (q ∙ sym p)) d)
 codes-at-one (texts.CodesAt.of-field {f = f} p c) (texts.CodesAt.no-field h q) = absurd (h f p)
 codes-at-one (texts.CodesAt.no-field h p) (texts.CodesAt.of-field {f = f} q c) = absurd (h f q)
 codes-at-one (texts.CodesAt.no-field h p) (texts.CodesAt.no-field i q) = p ∙ sym q
 
-reports-one : (f : Field) {ts : List (List ℕ)} {a b : Printed} → ReportsText f ts a → ReportsText f ts b → a ≡ b
-reports-one f (texts.reported {c = c} {told = u} w t p) (texts.reported {c = d} {told = v} i s q) =
-    p ∙ ap printedOf (reported.told-one f c u v t (subst (λ (k : CodeOf f). reporting.TellsQuantity f k v) (code-one f d c (numbers-one i w)) s)) ∙ sym q
+reports-one : (f : Field) {ts : List (List ℕ)} {a b : SaidLine} → ReportsText f ts a → ReportsText f ts b → a ≡ b
+reports-one f (texts.reported {c = c} {said = u} w t p) (texts.reported {c = d} {said = v} i s q) =
+    p ∙ ap lineOfQuantity (tells-quantity-one f c u v t (subst (λ (k : CodeOf f). reporting.TellsQuantity f k v) (code-one f d c (numbers-one i w)) s)) ∙ sym q
 reports-one f (texts.reported {c = c} w t p) (no-code i l h q) = absurd (h c (numbers-one w i))
 reports-one f (texts.reported {c = c} w t p) (no-numbers h q) = absurd (h (numbersOf f c) w (counted f c))
 reports-one f (no-code w l h p) (texts.reported {c = d} i s q) = absurd (h d (numbers-one i w))
@@ -134,7 +134,7 @@ reports-one f (no-numbers h p) (texts.reported {c = d} i s q) = absurd (h (numbe
 reports-one f (no-numbers h p) (no-code {zs = zs} i l k q) = absurd (h zs i l)
 reports-one f (no-numbers h p) (no-numbers i q) = p ∙ sym q
 
-pub reports-at-one : {place : ℕ} {ts : List (List ℕ)} {a b : Printed} → ReportsAt place ts a → ReportsAt place ts b → a ≡ b
+pub reports-at-one : {place : ℕ} {ts : List (List ℕ)} {a b : SaidLine} → ReportsAt place ts a → ReportsAt place ts b → a ≡ b
 reports-at-one {ts = ts} {b = b} (texts.ReportsAt.of-field {f = f} p c) (texts.ReportsAt.of-field {f = g} q d) =
     reports-one f c (subst (λ (k : Field). ReportsText k ts b) (place-one g f (q ∙ sym p)) d)
 reports-at-one (texts.ReportsAt.of-field {f = f} p c) (texts.ReportsAt.no-field h q) = absurd (h f p)

@@ -7,14 +7,14 @@ use Prim.Native.Nat.{ℕ, _<_}
 use lib.ListN.{length}
 use Rattle.text.proofs.OutputLaws.{split}
 use Rattle.text.specs.AnswerLines.{lineText}
-use Rattle.text.specs.declared.printed.Printed.{Printed}
+use Rattle.text.specs.declared.said.SaidLine.{SaidLine}
 use Rattle.coder.proofs.OneAnswer.{answers-one}
 use Rattle.streaming.specs.Inputs.{longestLine, mostOctets}
 use Rattle.streaming.specs.declared.output.Run.{Run}
 use Rattle.streaming.proofs.AnswerLaws.{ran-one}
 use Rattle.coder.specs.Coding.{Prints, CoderAnswer, CodesAll}
 
-prints-one : {line : List ℕ} {a b : Printed} → Prints line a → Prints line b → a ≡ b
+prints-one : {line : List ℕ} {a b : SaidLine} → Prints line a → Prints line b → a ≡ b
 prints-one {line} p q = ⊎-elim (λ h. p .too-long h ∙ sym (q .too-long h)) (λ h. answers-one (p .answers h) (q .answers h)) (split longestLine (length line))
 
 line-answer-one : (n : ℕ) (line t u : List ℕ) → CoderAnswer n line t → CoderAnswer n line u → t ≡ u

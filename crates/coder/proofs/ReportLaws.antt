@@ -13,8 +13,8 @@ use lib.Seq.{take-all}
 use Rattle.ground.specs.Answers.{refused}
 use Rattle.ground.specs.declared.refusals.Refusal.the-variants.{OutOfRange}
 use Rattle.ground.specs.declared.signs.Parts.{Parts}
-use Rattle.ground.specs.declared.told.Told.{Told}
-use Rattle.ground.specs.declared.told.Told.the-variants as told
+use Rattle.ground.specs.declared.said.SaidQuantity.{SaidQuantity}
+use Rattle.ground.specs.declared.said.SaidQuantity.the-variants as quantity
 use Rattle.fields.specs.Fields.{Field, latitude, longitude, uncertainty, altitudeUncertainty, altitude, innerRadius, offset, included, orientation, bearing, horizontalSpeed, verticalSpeed, uncertaintySpeed, confidence, CodeOf}
 use Rattle.one_field.specs.declared.reporting.Byte.{Byte}
 use Rattle.one_field.specs.declared.reporting.Byte.the-variants as byte
@@ -24,7 +24,7 @@ use Rattle.one_field.specs.declared.reporting.Signed.{Signed}
 use Rattle.one_field.specs.declared.reporting.Signed.the-variants as signed
 use Rattle.one_field.specs.Reporting.{TellsQuantity, TellsByte, TellsWord, TellsSigned, aboveByte, aboveWord}
 use Rattle.one_field.proofs.AboveLaws.{above-byte, above-word}
-use Rattle.one_field.proofs.OneQuantity.{told-one}
+use Rattle.one_field.proofs.OneQuantity.{tells-quantity-one}
 use Rattle.text.proofs.OutputLaws.{split}
 use Rattle.text.specs.Numerals.{numeralOf}
 use Rattle.text.specs.Widths.{signedValue, Means, FitsSigned, IsBelow, AsSize}
@@ -36,18 +36,18 @@ use Rattle.text.specs.declared.widths.Size.{Size}
 use Rattle.text.specs.declared.widths.Size.the-variants as size
 use Rattle.text.proofs.WidthLaws.{no-number, not-below}
 use Rattle.text.proofs.LineFieldLaws.{alone, number-uncut, marked}
-use Rattle.text.specs.AnswerLines.{printedOf}
-use Rattle.text.specs.declared.printed.Printed.{Printed}
-use Rattle.text.specs.declared.printed.Printed.the-variants.{Unreadable, Refused}
+use Rattle.text.specs.AnswerLines.{lineOfQuantity}
+use Rattle.text.specs.declared.said.SaidLine.{SaidLine}
+use Rattle.text.specs.declared.said.SaidLine.the-variants.{Unreadable, Refused}
 use Rattle.one_field.specs.Coding.{countOf}
 use Rattle.coder.specs.Written.{WriteNumbers, none, more, signedNumbers, numbersOf}
 use Rattle.coder.specs.FieldTexts.{ReportsText, reported, no-code, no-numbers, byteField, wordField, signedField}
 
 -- ---- a number above 32 bits
 
--- what is told of the largest of 32 bits is told of all that are greater, where all from some smaller number on are refused alike
-module _ (TellsQuantity : ℕ → Told → Type 0) (one : (n : ℕ) (a b : Told) → TellsQuantity n a → TellsQuantity n b → a ≡ b) (bound : ℕ) (small : bound < 4294967295) (refusal : Told) (above : (n : ℕ) → bound < n → TellsQuantity n refusal) where
-  uncapped : (n : ℕ) (r : Told) → TellsQuantity (min n 4294967295) r → TellsQuantity n r
+-- what is said of the largest of 32 bits is said of all that are greater, where all from some smaller number on are refused alike
+module _ (TellsQuantity : ℕ → SaidQuantity → Type 0) (one : (n : ℕ) (a b : SaidQuantity) → TellsQuantity n a → TellsQuantity n b → a ≡ b) (bound : ℕ) (small : bound < 4294967295) (refusal : SaidQuantity) (above : (n : ℕ) → bound < n → TellsQuantity n refusal) where
+  uncapped : (n : ℕ) (r : SaidQuantity) → TellsQuantity (min n 4294967295) r → TellsQuantity n r
   uncapped n r t =
       ⊎-elim
       (λ (h : 4294967295 < n).
@@ -57,38 +57,38 @@ module _ (TellsQuantity : ℕ → Told → Type 0) (one : (n : ℕ) (a b : Told)
       (λ (h : n ≤ 4294967295). let e : min n 4294967295 ≡ n = omega arith in rw e at t)
       (split 4294967295 n)
 
-byte-one : (k : Byte) (n : ℕ) (a b : Told) → TellsByte k n a → TellsByte k n b → a ≡ b
-byte-one byte.Uncertainty n = told-one uncertainty (record { 0 = n })
-byte-one byte.AltitudeUncertainty n = told-one altitudeUncertainty (record { 0 = n })
-byte-one byte.Offset n = told-one offset (record { 0 = n })
-byte-one byte.Included n = told-one included (record { 0 = n })
-byte-one byte.Orientation n = told-one orientation (record { 0 = n })
-byte-one byte.UncertaintySpeed n = told-one uncertaintySpeed (record { 0 = n })
-byte-one byte.Confidence n = told-one confidence (record { 0 = n })
+byte-one : (k : Byte) (n : ℕ) (a b : SaidQuantity) → TellsByte k n a → TellsByte k n b → a ≡ b
+byte-one byte.Uncertainty n = tells-quantity-one uncertainty (record { 0 = n })
+byte-one byte.AltitudeUncertainty n = tells-quantity-one altitudeUncertainty (record { 0 = n })
+byte-one byte.Offset n = tells-quantity-one offset (record { 0 = n })
+byte-one byte.Included n = tells-quantity-one included (record { 0 = n })
+byte-one byte.Orientation n = tells-quantity-one orientation (record { 0 = n })
+byte-one byte.UncertaintySpeed n = tells-quantity-one uncertaintySpeed (record { 0 = n })
+byte-one byte.Confidence n = tells-quantity-one confidence (record { 0 = n })
 
-word-one : (k : Word) (n : ℕ) (a b : Told) → TellsWord k n a → TellsWord k n b → a ≡ b
-word-one word.InnerRadius n = told-one innerRadius (record { 0 = n })
-word-one word.Bearing n = told-one bearing (record { 0 = n })
-word-one word.HorizontalSpeed n = told-one horizontalSpeed (record { 0 = n })
+word-one : (k : Word) (n : ℕ) (a b : SaidQuantity) → TellsWord k n a → TellsWord k n b → a ≡ b
+word-one word.InnerRadius n = tells-quantity-one innerRadius (record { 0 = n })
+word-one word.Bearing n = tells-quantity-one bearing (record { 0 = n })
+word-one word.HorizontalSpeed n = tells-quantity-one horizontalSpeed (record { 0 = n })
 
-signed-one : (k : Signed) (s : Bool) (n : ℕ) (a b : Told) → TellsSigned k s n a → TellsSigned k s n b → a ≡ b
-signed-one signed.Latitude s n = told-one latitude (record { 0 = s; 1 = n })
-signed-one signed.Altitude s n = told-one altitude (record { 0 = s; 1 = n })
-signed-one signed.VerticalSpeed s n = told-one verticalSpeed (record { 0 = s; 1 = n })
+signed-one : (k : Signed) (s : Bool) (n : ℕ) (a b : SaidQuantity) → TellsSigned k s n a → TellsSigned k s n b → a ≡ b
+signed-one signed.Latitude s n = tells-quantity-one latitude (record { 0 = s; 1 = n })
+signed-one signed.Altitude s n = tells-quantity-one altitude (record { 0 = s; 1 = n })
+signed-one signed.VerticalSpeed s n = tells-quantity-one verticalSpeed (record { 0 = s; 1 = n })
 
-above-signed : (k : Signed) (s : Bool) (n : ℕ) → 8388607 < n → TellsSigned k s n (told.Refused OutOfRange)
+above-signed : (k : Signed) (s : Bool) (n : ℕ) → 8388607 < n → TellsSigned k s n (quantity.Refused OutOfRange)
 above-signed signed.Latitude s n h = record { said = refused 7; promise = (refl, omega arith); told = refl }
 above-signed signed.Altitude s n h = record { said = refused 7; promise = (refl, omega arith); told = refl }
 above-signed signed.VerticalSpeed s n h = record { said = refused 7; promise = (refl, omega arith); told = refl }
 
-byte-uncapped : (k : Byte) (n : ℕ) (r : Told) → TellsByte k (min n 4294967295) r → TellsByte k n r
+byte-uncapped : (k : Byte) (n : ℕ) (r : SaidQuantity) → TellsByte k (min n 4294967295) r → TellsByte k n r
 byte-uncapped k = uncapped (TellsByte k) (byte-one k) 255 (omega arith) (aboveByte k) (above-byte k)
 
-word-uncapped : (k : Word) (n : ℕ) (r : Told) → TellsWord k (min n 4294967295) r → TellsWord k n r
+word-uncapped : (k : Word) (n : ℕ) (r : SaidQuantity) → TellsWord k (min n 4294967295) r → TellsWord k n r
 word-uncapped k = uncapped (TellsWord k) (word-one k) 65535 (omega arith) (aboveWord k) (above-word k)
 
-signed-uncapped : (k : Signed) (s : Bool) (n : ℕ) (r : Told) → TellsSigned k s (min n 4294967295) r → TellsSigned k s n r
-signed-uncapped k s = uncapped (TellsSigned k s) (signed-one k s) 8388607 (omega arith) (told.Refused OutOfRange) (above-signed k s)
+signed-uncapped : (k : Signed) (s : Bool) (n : ℕ) (r : SaidQuantity) → TellsSigned k s (min n 4294967295) r → TellsSigned k s n r
+signed-uncapped k s = uncapped (TellsSigned k s) (signed-one k s) 8388607 (omega arith) (quantity.Refused OutOfRange) (above-signed k s)
 
 -- ---- a size that was read
 
@@ -144,7 +144,7 @@ word-plain word.HorizontalSpeed = record { one = refl; above = λ c n e. not-neg
 pub below-reported : {f : Field} → Plain f → (text : List ℕ) → IsBelow (numeralOf text) → ReportsText f (fieldsOf text) (Refused 7)
 below-reported p text b = no-code (one-number text (b .means)) (sym (p .one)) (λ c e. p .above c (b .less) e) refl
 
-module _ (text : List ℕ) {n : ℕ} (m : Means (numeralOf text) (pos n)) (a : Told) {r : Printed} (p : r ≡ printedOf a) where
+module _ (text : List ℕ) {n : ℕ} (m : Means (numeralOf text) (pos n)) (a : SaidQuantity) {r : SaidLine} (p : r ≡ lineOfQuantity a) where
   pub byte-reported : (k : Byte) → TellsByte k (min n 4294967295) a → ReportsText (byteField k) (fieldsOf text) r
   byte-reported byte.Uncertainty t = reported (one-number text m) (byte-uncapped byte.Uncertainty n a t) p
   byte-reported byte.AltitudeUncertainty t = reported (one-number text m) (byte-uncapped byte.AltitudeUncertainty n a t) p
@@ -162,13 +162,13 @@ module _ (text : List ℕ) {n : ℕ} (m : Means (numeralOf text) (pos n)) (a : T
 -- ---- a longitude
 
 pub longitude-outside : (text : List ℕ) {p : Parts} → numeralOf text ≡ Number p → ((z : ℤ) → Means (numeralOf text) z → FitsSigned 32 z → ⊥) → ReportsText longitude (fieldsOf text) (Refused 7)
-unfolding printedOf
+unfolding lineOfQuantity
 longitude-outside text {p} e h =
     let m : Means (numeralOf text) (signedValue p) = record { parts = p; number = e; value = refl } in
     let l : 2147483648 ≤ mag (signedValue p) = ⊎-elim (λ (b : mag (signedValue p) < 2147483648). absurd (h (signedValue p) m (record { fits = b }))) (λ (b : 2147483648 ≤ mag (signedValue p)). b) (split (mag (signedValue p)) 2147483648) in
-    reported {c = record { 0 = signedValue p }} {told = told.Refused OutOfRange} (one-number text m) (record { said = refused 7; promise = (refl, omega arith); told = refl }) refl
+    reported {c = record { 0 = signedValue p }} {said = quantity.Refused OutOfRange} (one-number text m) (record { said = refused 7; promise = (refl, omega arith); told = refl }) refl
 
-pub longitude-reported : (text : List ℕ) {z : ℤ} {a : Told} {r : Printed} → Means (numeralOf text) z → TellsQuantity longitude (record { 0 = z }) a → r ≡ printedOf a → ReportsText longitude (fieldsOf text) r
+pub longitude-reported : (text : List ℕ) {z : ℤ} {a : SaidQuantity} {r : SaidLine} → Means (numeralOf text) z → TellsQuantity longitude (record { 0 = z }) a → r ≡ lineOfQuantity a → ReportsText longitude (fieldsOf text) r
 longitude-reported text m t p = reported (one-number text m) t p
 
 -- ---- a code with a sign
@@ -229,7 +229,7 @@ bit-is (suc (suc s)) l = absurd (omega arith)
 two-numbers : (first rest : List ℕ) {s n : ℕ} → s ≤ 1 → Means (numeralOf first) (pos s) → Means (numeralOf rest) (pos n) → WriteNumbers (first ∷ fieldsOf rest) (signedNumbers (eqb s 1) n)
 two-numbers first rest {s} l m n = more (subst (λ (b : ℕ). Means (numeralOf first) (pos b)) (bit-is s l) m) (one-number rest n)
 
-module _ (first rest : List ℕ) {s n : ℕ} (l : s ≤ 1) (m : Means (numeralOf first) (pos s)) (i : Means (numeralOf rest) (pos n)) (a : Told) {r : Printed} (p : r ≡ printedOf a) where
+module _ (first rest : List ℕ) {s n : ℕ} (l : s ≤ 1) (m : Means (numeralOf first) (pos s)) (i : Means (numeralOf rest) (pos n)) (a : SaidQuantity) {r : SaidLine} (p : r ≡ lineOfQuantity a) where
   pub signed-reported : (k : Signed) → TellsSigned k (eqb s 1) (min n 4294967295) a → ReportsText (signedField k) (first ∷ fieldsOf rest) r
   signed-reported signed.Latitude t = reported (two-numbers first rest l m i) (signed-uncapped signed.Latitude (eqb s 1) n a t) p
   signed-reported signed.Altitude t = reported (two-numbers first rest l m i) (signed-uncapped signed.Altitude (eqb s 1) n a t) p

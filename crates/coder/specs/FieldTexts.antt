@@ -4,7 +4,8 @@ use mathlib.Core.List.{List, [], _∷_}
 use Prim.Native.Nat.{ℕ}
 use lib.IntN.{ℤ}
 use lib.ListN.{length}
-use Rattle.ground.specs.declared.told.Told.{Told}
+use Rattle.ground.specs.declared.said.SaidCode.{SaidCode}
+use Rattle.ground.specs.declared.said.SaidQuantity.{SaidQuantity}
 use Rattle.fields.specs.Fields.{Field, latitude, longitude, uncertainty, altitudeUncertainty, altitude, innerRadius, offset, included, orientation, bearing, horizontalSpeed, verticalSpeed, uncertaintySpeed, confidence, CodeOf, QuantityOf}
 use Rattle.one_field.specs.declared.coding.Coordinate.{Coordinate}
 use Rattle.one_field.specs.declared.coding.Coordinate.the-variants as coordinate
@@ -19,9 +20,9 @@ use Rattle.one_field.specs.declared.reporting.Signed.{Signed}
 use Rattle.one_field.specs.declared.reporting.Signed.the-variants as signed
 use Rattle.one_field.specs.Reporting as reporting
 use Rattle.text.specs.LineFields.{IsAbsent, fieldsOf}
-use Rattle.text.specs.AnswerLines.{printedOf}
-use Rattle.text.specs.declared.printed.Printed.{Printed}
-use Rattle.text.specs.declared.printed.Printed.the-variants.{Unreadable, Refused}
+use Rattle.text.specs.AnswerLines.{lineOfCode, lineOfQuantity}
+use Rattle.text.specs.declared.said.SaidLine.{SaidLine}
+use Rattle.text.specs.declared.said.SaidLine.the-variants.{Unreadable, Refused}
 use Rattle.fields.specs.Places.{placeOf}
 use Rattle.one_field.specs.Coding.{countOf}
 use Rattle.coder.specs.Written.{TextSays, WriteNumbers, numbersOf}
@@ -29,25 +30,25 @@ use Rattle.coder.specs.Written.{TextSays, WriteNumbers, numbersOf}
 -- ---- coding
 
 -- one text that writes a quantity, or unreadable
-pub data CodesText (f : Field) (texts : List (List ℕ)) (r : Printed) : Type 0 where
-  coded : {text : List ℕ} {x : QuantityOf f} {told : Told} → texts ≡ text ∷ [] → TextSays f text x → coding.TellsCode f x told → r ≡ printedOf told → CodesText f texts r
+pub data CodesText (f : Field) (texts : List (List ℕ)) (r : SaidLine) : Type 0 where
+  coded : {text : List ℕ} {x : QuantityOf f} {said : SaidCode} → texts ≡ text ∷ [] → TextSays f text x → coding.TellsCode f x said → r ≡ lineOfCode said → CodesText f texts r
   no-quantity : ((text : List ℕ) (x : QuantityOf f) → texts ≡ text ∷ [] → TextSays f text x → ⊥) → r ≡ Unreadable → CodesText f texts r
 
 -- of the field at that place
-pub data CodesAt (place : ℕ) (texts : List (List ℕ)) (r : Printed) : Type 0 where
+pub data CodesAt (place : ℕ) (texts : List (List ℕ)) (r : SaidLine) : Type 0 where
   of-field : {f : Field} → placeOf f ≡ place → CodesText f texts r → CodesAt place texts r
   no-field : ((f : Field) → placeOf f ≡ place → ⊥) → r ≡ Unreadable → CodesAt place texts r
 
 -- ---- reporting
 
 -- numbers that are a code, numbers that are none, or unreadable
-pub data ReportsText (f : Field) (texts : List (List ℕ)) (r : Printed) : Type 0 where
-  reported : {c : CodeOf f} {told : Told} → WriteNumbers texts (numbersOf f c) → reporting.TellsQuantity f c told → r ≡ printedOf told → ReportsText f texts r
+pub data ReportsText (f : Field) (texts : List (List ℕ)) (r : SaidLine) : Type 0 where
+  reported : {c : CodeOf f} {said : SaidQuantity} → WriteNumbers texts (numbersOf f c) → reporting.TellsQuantity f c said → r ≡ lineOfQuantity said → ReportsText f texts r
   no-code : {zs : List ℤ} → WriteNumbers texts zs → length zs ≡ countOf f → ((c : CodeOf f) → numbersOf f c ≡ zs → ⊥) → r ≡ Refused 7 → ReportsText f texts r
   no-numbers : ((zs : List ℤ) → WriteNumbers texts zs → length zs ≡ countOf f → ⊥) → r ≡ Unreadable → ReportsText f texts r
 
 -- of the field at that place
-pub data ReportsAt (place : ℕ) (texts : List (List ℕ)) (r : Printed) : Type 0 where
+pub data ReportsAt (place : ℕ) (texts : List (List ℕ)) (r : SaidLine) : Type 0 where
   of-field : {f : Field} → placeOf f ≡ place → ReportsText f texts r → ReportsAt place texts r
   no-field : ((f : Field) → placeOf f ≡ place → ⊥) → r ≡ Unreadable → ReportsAt place texts r
 
@@ -77,7 +78,7 @@ signedField signed.Altitude = altitude
 signedField signed.VerticalSpeed = verticalSpeed
 
 -- for a quantity that may be missing: one that is given
-abbrev pub CodesUnsigned : Unsigned → List ℕ → Printed → Type 0
+abbrev pub CodesUnsigned : Unsigned → List ℕ → SaidLine → Type 0
 CodesUnsigned unsigned.Uncertainty text r = CodesText uncertainty (fieldsOf text) r
 CodesUnsigned unsigned.AltitudeUncertainty text r = CodesText altitudeUncertainty (fieldsOf text) r
 CodesUnsigned unsigned.InnerRadius text r = CodesText innerRadius (fieldsOf text) r

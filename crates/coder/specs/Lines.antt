@@ -4,14 +4,15 @@ use mathlib.Core.List.{List, [], _∷_}
 use Prim.Native.Nat.{ℕ}
 use lib.IntN.{ℤ}
 use lib.ListN.{length}
-use Rattle.ground.specs.declared.told.Told.{Told}
+use Rattle.ground.specs.declared.said.SaidCode.{SaidCode}
+use Rattle.ground.specs.declared.said.SaidQuantity.{SaidQuantity}
 use Rattle.fields.specs.Fields.{Field, CodeOf, QuantityOf}
 use Rattle.one_field.specs.Coding as coding
 use Rattle.one_field.specs.Reporting as reporting
 use Rattle.text.specs.LineFields.{fieldsOf}
-use Rattle.text.specs.AnswerLines.{printedOf}
-use Rattle.text.specs.declared.printed.Printed.{Printed}
-use Rattle.text.specs.declared.printed.Printed.the-variants.{Unreadable, Refused}
+use Rattle.text.specs.AnswerLines.{lineOfCode, lineOfQuantity}
+use Rattle.text.specs.declared.said.SaidLine.{SaidLine}
+use Rattle.text.specs.declared.said.SaidLine.the-variants.{Unreadable, Refused}
 use Rattle.one_field.specs.Coding.{countOf}
 use Rattle.coder.specs.Written.{TextSays, WriteNumbers, numbersOf}
 use Rattle.coder.specs.Names.{codeVerb, reportVerb, nameOf}
@@ -33,8 +34,8 @@ pub record SaysNumbers (line : List ℕ) (f : Field) (zs : List ℤ) : Type 0 wh
 
 -- What the field's coder tells of the quantity, or its reporter of the code, which may be a number that does not fit its field. Numbers that are
 -- no code, as a sign of 2 or a number below zero, are refused with 7. A line that says neither a quantity nor such numbers is unreadable.
-pub data Answers (line : List ℕ) (r : Printed) : Type 0 where
-  coded : {f : Field} {x : QuantityOf f} {told : Told} → SaysQuantity line f x → coding.TellsCode f x told → r ≡ printedOf told → Answers line r
-  reported : {f : Field} {c : CodeOf f} {told : Told} → SaysNumbers line f (numbersOf f c) → reporting.TellsQuantity f c told → r ≡ printedOf told → Answers line r
+pub data Answers (line : List ℕ) (r : SaidLine) : Type 0 where
+  coded : {f : Field} {x : QuantityOf f} {said : SaidCode} → SaysQuantity line f x → coding.TellsCode f x said → r ≡ lineOfCode said → Answers line r
+  reported : {f : Field} {c : CodeOf f} {said : SaidQuantity} → SaysNumbers line f (numbersOf f c) → reporting.TellsQuantity f c said → r ≡ lineOfQuantity said → Answers line r
   no-code : {f : Field} {zs : List ℤ} → SaysNumbers line f zs → ((c : CodeOf f) → numbersOf f c ≡ zs → ⊥) → r ≡ Refused 7 → Answers line r
   unreadable : ((f : Field) (x : QuantityOf f) → SaysQuantity line f x → ⊥) → ((f : Field) (zs : List ℤ) → SaysNumbers line f zs → ⊥) → r ≡ Unreadable → Answers line r

@@ -5,7 +5,7 @@ use ground::SignedMillimetres;
 use one_field::Coordinate;
 use one_field::Markable;
 use one_field::Unsigned;
-use text::Printed;
+use text::SaidLine;
 use text::Signed32;
 use text::Signed64;
 use text::Unsigned32;
@@ -14,7 +14,7 @@ ghost use Rattle.text.specs.LineFields.{fieldsOf};
 ghost use Rattle.coder.specs.FieldTexts.{CodesAt, CodesText, CodesUnsigned, coordinateField};
 
 // The code for the name at that place. More than one text is no number: there is a space in it.
-pub fn coded(place: usize, text: &[u8]) -> Printed
+pub fn coded(place: usize, text: &[u8]) -> SaidLine
     ensures { λ r. ⌜ CodesAt place (fieldsOf (now (text .entry))) r ⌝ }
 {
     match place {
@@ -32,61 +32,61 @@ pub fn coded(place: usize, text: &[u8]) -> Printed
         11 => vertical_speed(text),
         12 => uncertainty_speed(text),
         13 => confidence(text),
-        _ => Printed::Unreadable,
+        _ => SaidLine::Unreadable,
     }
 }
 
-fn coordinate(field: Coordinate, text: &[u8]) -> Printed
+fn coordinate(field: Coordinate, text: &[u8]) -> SaidLine
     ensures { λ r. ⌜ CodesText (coordinateField field) (fieldsOf (now (text .entry))) r ⌝ }
 {
     let Signed64::Number(x) = text::signed_64(text::number_in(text)) else {
-        return Printed::Unreadable;
+        return SaidLine::Unreadable;
     };
-    text::of_told(one_field::coded_coordinate(field, Nanodegrees(x)))
+    text::line_of_code(one_field::coded_coordinate(field, Nanodegrees(x)))
 }
 
-fn unsigned(field: Unsigned, text: &[u8]) -> Printed
+fn unsigned(field: Unsigned, text: &[u8]) -> SaidLine
     ensures { λ r. ⌜ CodesUnsigned field (now (text .entry)) r ⌝ }
 {
     let Unsigned32::Number(x) = text::unsigned_32(text::number_in(text)) else {
-        return Printed::Unreadable;
+        return SaidLine::Unreadable;
     };
-    text::of_told(one_field::coded_unsigned(field, x))
+    text::line_of_code(one_field::coded_unsigned(field, x))
 }
 
 // A dash is a missing quantity.
-fn uncertainty_speed(text: &[u8]) -> Printed
+fn uncertainty_speed(text: &[u8]) -> SaidLine
     ensures { λ r. ⌜ CodesText uncertaintySpeed (fieldsOf (now (text .entry))) r ⌝ }
 {
     if check::same(text, b"-") {
-        return text::of_told(one_field::coded_missing(Markable::UncertaintySpeed));
+        return text::line_of_code(one_field::coded_missing(Markable::UncertaintySpeed));
     }
     unsigned(Unsigned::UncertaintySpeed, text)
 }
 
-fn confidence(text: &[u8]) -> Printed
+fn confidence(text: &[u8]) -> SaidLine
     ensures { λ r. ⌜ CodesText confidence (fieldsOf (now (text .entry))) r ⌝ }
 {
     if check::same(text, b"-") {
-        return text::of_told(one_field::coded_missing(Markable::Confidence));
+        return text::line_of_code(one_field::coded_missing(Markable::Confidence));
     }
     unsigned(Unsigned::Confidence, text)
 }
 
-fn altitude(text: &[u8]) -> Printed
+fn altitude(text: &[u8]) -> SaidLine
     ensures { λ r. ⌜ CodesText altitude (fieldsOf (now (text .entry))) r ⌝ }
 {
     let Signed32::Number(x) = text::signed_32(text::number_in(text)) else {
-        return Printed::Unreadable;
+        return SaidLine::Unreadable;
     };
-    text::of_told(one_field::coded_altitude(SignedMillimetres(x)))
+    text::line_of_code(one_field::coded_altitude(SignedMillimetres(x)))
 }
 
-fn vertical_speed(text: &[u8]) -> Printed
+fn vertical_speed(text: &[u8]) -> SaidLine
     ensures { λ r. ⌜ CodesText verticalSpeed (fieldsOf (now (text .entry))) r ⌝ }
 {
     let Signed32::Number(x) = text::signed_32(text::number_in(text)) else {
-        return Printed::Unreadable;
+        return SaidLine::Unreadable;
     };
-    text::of_told(one_field::coded_vertical_speed(SignedMetresPerHour(x)))
+    text::line_of_code(one_field::coded_vertical_speed(SignedMetresPerHour(x)))
 }

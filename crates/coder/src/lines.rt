@@ -3,7 +3,7 @@
 use crate::code_text;
 use crate::names;
 use crate::report_text;
-use text::Printed;
+use text::SaidLine;
 ghost use mathlib.Core.Path.{_≡_};
 ghost use mathlib.Core.List.{List, _∷_};
 ghost use Prim.Native.Nat.{ℕ};
@@ -11,12 +11,12 @@ ghost use Rattle.text.specs.LineFields.{fieldsOf};
 ghost use Rattle.coder.specs.Names.{IsVerb};
 ghost use Rattle.coder.specs.Lines.{Answers};
 
-pub fn answer(line: &[u8]) -> Printed
+pub fn answer(line: &[u8]) -> SaidLine
     ensures { λ r. ⌜ Answers (now (line .entry)) r ⌝ }
 {
     let end = text::field_end(line, 0);
     if end == line.len() {
-        return Printed::Unreadable;
+        return SaidLine::Unreadable;
     }
     let from = end + 1;
     let verb = names::verb_of(&line[0..end]);
@@ -24,12 +24,12 @@ pub fn answer(line: &[u8]) -> Printed
 }
 
 // The answer for a line whose verb is that and whose fields after it are those. How many come after the name is left to what reads them.
-fn named(verb: usize, fields: &[u8]) -> Printed
+fn named(verb: usize, fields: &[u8]) -> SaidLine
     ensures { λ r. ⌜ ((line word : List ℕ) → fieldsOf line ≡ word ∷ fieldsOf (now (fields .entry)) → IsVerb word verb → Answers line r) ⌝ }
 {
     let end = text::field_end(fields, 0);
     if end == fields.len() {
-        return Printed::Unreadable;
+        return SaidLine::Unreadable;
     }
     let from = end + 1;
     let place = names::place_of(&fields[0..end]);
@@ -37,6 +37,6 @@ fn named(verb: usize, fields: &[u8]) -> Printed
     match verb {
         0 => code_text::coded(place, rest),
         1 => report_text::reported(place, rest),
-        _ => Printed::Unreadable,
+        _ => SaidLine::Unreadable,
     }
 }

@@ -1,4 +1,4 @@
-// CodesAll quantities, and reports codes: each line of standard input is answered by a line of standard output, its number,
+// Codes quantities, and reports codes: each line of standard input is answered by a line of standard output, its number,
 // the answer, and on 0 the code or the quantity. A last line says how many there were.
 mod code_text;
 mod lines;
@@ -8,7 +8,7 @@ mod report_text;
 use streaming::Input;
 use streaming::Output;
 use streaming::Run;
-use text::Printed;
+use text::SaidLine;
 ghost use mathlib.Core.Path.{_≡_};
 ghost use mathlib.Core.Bool.{false};
 ghost use mathlib.Core.List.{List, []};
@@ -70,18 +70,18 @@ fn answer_line(out: &mut [u8; 65536], block: &[u8; 65536], input: Input, before:
 {
     let mut output = streaming::make_room(out, before, LONGEST_ANSWER);
     output.answered += 1;
-    output.put = text::put_line(out, output.put, output.answered, printed(block, input));
+    output.put = text::put_line(out, output.put, output.answered, said(block, input));
     output
 }
 
-// What is printed for the line that is held.
-fn printed(block: &[u8], input: Input) -> Printed
+// What is said for the line that is held.
+fn said(block: &[u8], input: Input) -> SaidLine
     requires { ⌜ length (now block) ≡ 65536 ⌝ }
     requires { ⌜ SoundInput input ⌝ }
     ensures { λ r. ⌜ ((line : List ℕ) → Line (now (block .entry)) input line → Prints line r) ⌝ }
 {
     if input.long {
-        return Printed::Unreadable;
+        return SaidLine::Unreadable;
     }
     let from = input.from;
     let end = input.end;

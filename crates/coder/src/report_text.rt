@@ -4,7 +4,7 @@ use one_field::Byte;
 use one_field::Signed;
 use one_field::Word;
 use text::Numeral;
-use text::Printed;
+use text::SaidLine;
 use text::Signed32;
 use text::Size;
 ghost use mathlib.Core.Path.{_≡_};
@@ -21,7 +21,7 @@ ghost use Rattle.coder.specs.FieldTexts.{ReportsAt, ReportsText, byteFie
 const NO_CODE: u64 = 7;
 
 // The quantity for the name at that place.
-pub fn reported(place: usize, texts: &[u8]) -> Printed
+pub fn reported(place: usize, texts: &[u8]) -> SaidLine
     ensures { λ r. ⌜ ReportsAt place (fieldsOf (now (texts .entry))) r ⌝ }
 {
     match place {
@@ -39,52 +39,52 @@ pub fn reported(place: usize, texts: &[u8]) -> Printed
         11 => signed(Signed::VerticalSpeed, texts),
         12 => byte(Byte::UncertaintySpeed, texts),
         13 => byte(Byte::Confidence, texts),
-        _ => Printed::Unreadable,
+        _ => SaidLine::Unreadable,
     }
 }
 
-fn byte(field: Byte, text: &[u8]) -> Printed
+fn byte(field: Byte, text: &[u8]) -> SaidLine
     ensures { λ r. ⌜ ReportsText (byteField field) (fieldsOf (now (text .entry))) r ⌝ }
 {
     match text::size_of(text::number_in(text)) {
-        Size::Code(n) => text::of_told(one_field::reported_byte(field, capped(n))),
-        Size::Below => Printed::Refused(NO_CODE),
-        Size::Nothing => Printed::Unreadable,
+        Size::Code(n) => text::line_of_quantity(one_field::reported_byte(field, capped(n))),
+        Size::Below => SaidLine::Refused(NO_CODE),
+        Size::Nothing => SaidLine::Unreadable,
     }
 }
 
-fn word(field: Word, text: &[u8]) -> Printed
+fn word(field: Word, text: &[u8]) -> SaidLine
     ensures { λ r. ⌜ ReportsText (wordField field) (fieldsOf (now (text .entry))) r ⌝ }
 {
     match text::size_of(text::number_in(text)) {
-        Size::Code(n) => text::of_told(one_field::reported_word(field, capped(n))),
-        Size::Below => Printed::Refused(NO_CODE),
-        Size::Nothing => Printed::Unreadable,
+        Size::Code(n) => text::line_of_quantity(one_field::reported_word(field, capped(n))),
+        Size::Below => SaidLine::Refused(NO_CODE),
+        Size::Nothing => SaidLine::Unreadable,
     }
 }
 
-fn longitude(text: &[u8]) -> Printed
+fn longitude(text: &[u8]) -> SaidLine
     ensures { λ r. ⌜ ReportsText longitude (fieldsOf (now (text .entry))) r ⌝ }
 {
     let n = text::number_in(text);
     match n {
         Numeral::Number(_) => {
             let Signed32::Number(x) = text::signed_32(n) else {
-                return Printed::Refused(NO_CODE);
+                return SaidLine::Refused(NO_CODE);
             };
-            text::of_told(one_field::reported_longitude(LongitudeCode(x)))
+            text::line_of_quantity(one_field::reported_longitude(LongitudeCode(x)))
         }
-        Numeral::Nothing => Printed::Unreadable,
+        Numeral::Nothing => SaidLine::Unreadable,
     }
 }
 
 // A code of two numbers, the first of them 0 or 1.
-fn signed(field: Signed, texts: &[u8]) -> Printed
+fn signed(field: Signed, texts: &[u8]) -> SaidLine
     ensures { λ r. ⌜ ReportsText (signedField field) (fieldsOf (now (texts .entry))) r ⌝ }
 {
     let end = text::field_end(texts, 0);
     if end == texts.len() {
-        return Printed::Unreadable;
+        return SaidLine::Unreadable;
     }
     let from = end + 1;
     let sign = text::size_of(text::number_in(&texts[0..end]));
@@ -92,32 +92,32 @@ fn signed(field: Signed, texts: &[u8]) -> Printed
 }
 
 // What is no number comes first: it makes the line unreadable.
-fn with_sign(field: Signed, sign: Size, size: Size) -> Printed
+fn with_sign(field: Signed, sign: Size, size: Size) -> SaidLine
     ensures { λ r. ⌜ ((first rest : List ℕ) → AsSize (numeralOf first) sign → AsSize (numeralOf rest) size → ReportsText (signedField field) (first ∷ fieldsOf rest) r) ⌝ }
 {
     match sign {
-        Size::Nothing => Printed::Unreadable,
+        Size::Nothing => SaidLine::Unreadable,
         Size::Below => match size {
-            Size::Nothing => Printed::Unreadable,
-            Size::Below => Printed::Refused(NO_CODE),
-            Size::Code(_) => Printed::Refused(NO_CODE),
+            Size::Nothing => SaidLine::Unreadable,
+            Size::Below => SaidLine::Refused(NO_CODE),
+            Size::Code(_) => SaidLine::Refused(NO_CODE),
         },
         Size::Code(s) => match size {
-            Size::Nothing => Printed::Unreadable,
-            Size::Below => Printed::Refused(NO_CODE),
+            Size::Nothing => SaidLine::Unreadable,
+            Size::Below => SaidLine::Refused(NO_CODE),
             Size::Code(n) => with_bit(field, s, n),
         },
     }
 }
 
 // The sign is 0 or 1.
-fn with_bit(field: Signed, sign: u64, n: u64) -> Printed
+fn with_bit(field: Signed, sign: u64, n: u64) -> SaidLine
     ensures { λ r. ⌜ ((first rest : List ℕ) → Means (numeralOf first) (pos sign) → Means (numeralOf rest) (pos n) → ReportsText (signedField field) (first ∷ fieldsOf rest) r) ⌝ }
 {
     if 1 < sign {
-        return Printed::Refused(NO_CODE);
+        return SaidLine::Refused(NO_CODE);
     }
-    text::of_told(one_field::reported_signed(field, sign == 1, capped(n)))
+    text::line_of_quantity(one_field::reported_signed(field, sign == 1, capped(n)))
 }
 
 // The number itself, or the largest of 32 bits, which is outside every field too.

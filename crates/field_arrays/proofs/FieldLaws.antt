@@ -12,8 +12,10 @@ use Rattle.ground.specs.declared.quantity.UncertaintySpeed.{UncertaintySpeed}
 use Rattle.ground.specs.declared.quantity.UncertaintySpeed.the-variants as uncertain
 use Rattle.ground.specs.declared.quantity.Confidence.{Confidence}
 use Rattle.ground.specs.declared.quantity.Confidence.the-variants as confident
-use Rattle.ground.specs.declared.told.Told.{Told}
-use Rattle.ground.specs.declared.told.Told.the-variants as told
+use Rattle.ground.specs.declared.said.SaidCode.{SaidCode}
+use Rattle.ground.specs.declared.said.SaidCode.the-variants as code
+use Rattle.ground.specs.declared.said.SaidQuantity.{SaidQuantity}
+use Rattle.ground.specs.declared.said.SaidQuantity.the-variants as quantity
 use Rattle.one_field.specs.declared.coding.Unsigned.{Unsigned}
 use Rattle.one_field.specs.declared.coding.Unsigned.the-variants as unsigned
 use Rattle.one_field.specs.Coding.{TellsUnsigned}
@@ -47,7 +49,7 @@ no-confidence : (z : ℤ) → (z ≡ missing → ⊥) → (Natural32 z → ⊥) 
 no-confidence z m h (confident.PerCent p) i = h (i .fits)
 no-confidence z m h confident.Missing i = m i
 
-pub natural-given : (f : Unsigned) (z : ℤ) (r : Told) → Natural32 z → TellsUnsigned f (naturalOf z) r → CodesNatural f z r
+pub natural-given : (f : Unsigned) (z : ℤ) (r : SaidCode) → Natural32 z → TellsUnsigned f (naturalOf z) r → CodesNatural f z r
 natural-given unsigned.Uncertainty z r h t = coded (natural-at z h) t
 natural-given unsigned.AltitudeUncertainty z r h t = coded (natural-at z h) t
 natural-given unsigned.InnerRadius z r h t = coded (natural-at z h) t
@@ -59,7 +61,7 @@ natural-given unsigned.HorizontalSpeed z r h t = coded (natural-at z h) t
 natural-given unsigned.UncertaintySpeed z r h t = λ m. coded (natural-at z h) t
 natural-given unsigned.Confidence z r h t = λ m. coded (natural-at z h) t
 
-pub natural-outside : (f : Unsigned) (z : ℤ) → (Natural32 z → ⊥) → CodesNatural f z (told.Refused OutOfRange)
+pub natural-outside : (f : Unsigned) (z : ℤ) → (Natural32 z → ⊥) → CodesNatural f z (code.Refused OutOfRange)
 natural-outside unsigned.Uncertainty z h = outside (λ x i. h (i .fits)) refl
 natural-outside unsigned.AltitudeUncertainty z h = outside (λ x i. h (i .fits)) refl
 natural-outside unsigned.InnerRadius z h = outside (λ x i. h (i .fits)) refl
@@ -73,7 +75,7 @@ natural-outside unsigned.Confidence z h = λ m. outside (no-confidence z m h) re
 
 -- ---- a code's elements
 
-pub byte-short : (f : Byte) (elements : List ℕ) → length elements < 1 → ReportsByte f elements (told.Refused WrongLength)
+pub byte-short : (f : Byte) (elements : List ℕ) → length elements < 1 → ReportsByte f elements (quantity.Refused WrongLength)
 byte-short byte.Uncertainty elements h = too-short h refl
 byte-short byte.AltitudeUncertainty elements h = too-short h refl
 byte-short byte.Offset elements h = too-short h refl
@@ -82,36 +84,36 @@ byte-short byte.Orientation elements h = too-short h refl
 byte-short byte.UncertaintySpeed elements h = too-short h refl
 byte-short byte.Confidence elements h = too-short h refl
 
-pub byte-told : (f : Byte) (elements : List ℕ) (r : Told) → 1 ≤ length elements → TellsByte f (elementAt elements 0) r → ReportsByte f elements r
-byte-told byte.Uncertainty elements r h t = reported (record { one = h; number = refl }) t
-byte-told byte.AltitudeUncertainty elements r h t = reported (record { one = h; number = refl }) t
-byte-told byte.Offset elements r h t = reported (record { one = h; number = refl }) t
-byte-told byte.Included elements r h t = reported (record { one = h; number = refl }) t
-byte-told byte.Orientation elements r h t = reported (record { one = h; number = refl }) t
-byte-told byte.UncertaintySpeed elements r h t = reported (record { one = h; number = refl }) t
-byte-told byte.Confidence elements r h t = reported (record { one = h; number = refl }) t
+pub byte-said : (f : Byte) (elements : List ℕ) (r : SaidQuantity) → 1 ≤ length elements → TellsByte f (elementAt elements 0) r → ReportsByte f elements r
+byte-said byte.Uncertainty elements r h t = reported (record { one = h; number = refl }) t
+byte-said byte.AltitudeUncertainty elements r h t = reported (record { one = h; number = refl }) t
+byte-said byte.Offset elements r h t = reported (record { one = h; number = refl }) t
+byte-said byte.Included elements r h t = reported (record { one = h; number = refl }) t
+byte-said byte.Orientation elements r h t = reported (record { one = h; number = refl }) t
+byte-said byte.UncertaintySpeed elements r h t = reported (record { one = h; number = refl }) t
+byte-said byte.Confidence elements r h t = reported (record { one = h; number = refl }) t
 
-pub word-short : (f : Word) (elements : List ℕ) → length elements < 1 → ReportsWord f elements (told.Refused WrongLength)
+pub word-short : (f : Word) (elements : List ℕ) → length elements < 1 → ReportsWord f elements (quantity.Refused WrongLength)
 word-short word.InnerRadius elements h = too-short h refl
 word-short word.Bearing elements h = too-short h refl
 word-short word.HorizontalSpeed elements h = too-short h refl
 
-pub word-told : (f : Word) (elements : List ℕ) (r : Told) → 1 ≤ length elements → TellsWord f (elementAt elements 0) r → ReportsWord f elements r
-word-told word.InnerRadius elements r h t = reported (record { one = h; number = refl }) t
-word-told word.Bearing elements r h t = reported (record { one = h; number = refl }) t
-word-told word.HorizontalSpeed elements r h t = reported (record { one = h; number = refl }) t
+pub word-said : (f : Word) (elements : List ℕ) (r : SaidQuantity) → 1 ≤ length elements → TellsWord f (elementAt elements 0) r → ReportsWord f elements r
+word-said word.InnerRadius elements r h t = reported (record { one = h; number = refl }) t
+word-said word.Bearing elements r h t = reported (record { one = h; number = refl }) t
+word-said word.HorizontalSpeed elements r h t = reported (record { one = h; number = refl }) t
 
-pub signed-short : (f : Signed) (elements : List ℕ) → length elements < 2 → ReportsSigned f elements (told.Refused WrongLength)
+pub signed-short : (f : Signed) (elements : List ℕ) → length elements < 2 → ReportsSigned f elements (quantity.Refused WrongLength)
 signed-short signed.Latitude elements h = too-short h refl
 signed-short signed.Altitude elements h = too-short h refl
 signed-short signed.VerticalSpeed elements h = too-short h refl
 
-pub no-sign : (f : Signed) (elements : List ℕ) → 2 ≤ length elements → 1 < elementAt elements 0 → ReportsSigned f elements (told.Refused OutOfRange)
+pub no-sign : (f : Signed) (elements : List ℕ) → 2 ≤ length elements → 1 < elementAt elements 0 → ReportsSigned f elements (quantity.Refused OutOfRange)
 no-sign signed.Latitude elements h s = no-code h (λ c i. omega (arith, i .bit)) refl
 no-sign signed.Altitude elements h s = no-code h (λ c i. omega (arith, i .bit)) refl
 no-sign signed.VerticalSpeed elements h s = no-code h (λ c i. omega (arith, i .bit)) refl
 
-pub signed-told : (f : Signed) (elements : List ℕ) (r : Told) → 2 ≤ length elements → elementAt elements 0 ≤ 1 → TellsSigned f (signOf (elementAt elements 0)) (elementAt elements 1) r → ReportsSigned f elements r
-signed-told signed.Latitude elements r h b t = reported (record { both = h; bit = b; sign = refl; number = refl }) t
-signed-told signed.Altitude elements r h b t = reported (record { both = h; bit = b; sign = refl; number = refl }) t
-signed-told signed.VerticalSpeed elements r h b t = reported (record { both = h; bit = b; sign = refl; number = refl }) t
+pub signed-said : (f : Signed) (elements : List ℕ) (r : SaidQuantity) → 2 ≤ length elements → elementAt elements 0 ≤ 1 → TellsSigned f (signOf (elementAt elements 0)) (elementAt elements 1) r → ReportsSigned f elements r
+signed-said signed.Latitude elements r h b t = reported (record { both = h; bit = b; sign = refl; number = refl }) t
+signed-said signed.Altitude elements r h b t = reported (record { both = h; bit = b; sign = refl; number = refl }) t
+signed-said signed.VerticalSpeed elements r h b t = reported (record { both = h; bit = b; sign = refl; number = refl }) t

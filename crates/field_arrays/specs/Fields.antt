@@ -1,4 +1,4 @@
--- ONE FIELD'S CODE AND QUANTITY IN CELLS.
+-- ONE FIELD'S CODE AND QUANTITY IN ELEMENTS.
 use mathlib.Core.Path.{_≡_}
 use mathlib.Core.Bool.{Bool}
 use mathlib.Core.List.{List, [], _∷_}
@@ -12,8 +12,10 @@ use Rattle.ground.specs.declared.quantity.UncertaintySpeed.{UncertaintySpeed}
 use Rattle.ground.specs.declared.quantity.UncertaintySpeed.the-variants as uncertain
 use Rattle.ground.specs.declared.quantity.Confidence.{Confidence}
 use Rattle.ground.specs.declared.quantity.Confidence.the-variants as confident
-use Rattle.ground.specs.declared.told.Told.{Told}
-use Rattle.ground.specs.declared.told.Told.the-variants as told
+use Rattle.ground.specs.declared.said.SaidCode.{SaidCode}
+use Rattle.ground.specs.declared.said.SaidCode.the-variants as code
+use Rattle.ground.specs.declared.said.SaidQuantity.{SaidQuantity}
+use Rattle.ground.specs.declared.said.SaidQuantity.the-variants as quantity
 use Rattle.octets.specs.Codes.{bitOf, signOf}
 use Rattle.fields.specs.Fields.{Field, latitude, longitude, uncertainty, altitudeUncertainty, altitude, innerRadius, offset, included, orientation, bearing, horizontalSpeed, verticalSpeed, uncertaintySpeed, confidence, CodeOf, QuantityOf}
 use Rattle.fields.specs.Places.{placeOf}
@@ -68,13 +70,13 @@ QuantityArrives uncertaintySpeed z x = IsUncertaintySpeed z x
 QuantityArrives confidence z x = IsConfidence z x
 
 -- the field's coder tells of the quantity in the element; 7 where none arrives
-pub data CodesElement (f : Field) (z : ℤ) (r : Told) : Type 0 where
-  outside : ((x : QuantityOf f) → QuantityArrives f z x → ⊥) → r ≡ told.Refused OutOfRange → CodesElement f z r
+pub data CodesElement (f : Field) (z : ℤ) (r : SaidCode) : Type 0 where
+  outside : ((x : QuantityOf f) → QuantityArrives f z x → ⊥) → r ≡ code.Refused OutOfRange → CodesElement f z r
   coded : {x : QuantityOf f} → QuantityArrives f z x → coding.TellsCode f x r → CodesElement f z r
 
 -- of the field whose place is that number; 2 where there is none
-pub data CodesField (number : ℕ) (z : ℤ) (r : Told) : Type 0 where
-  no-field : 14 ≤ number → r ≡ told.Refused UnknownType → CodesField number z r
+pub data CodesField (number : ℕ) (z : ℤ) (r : SaidCode) : Type 0 where
+  no-field : 14 ≤ number → r ≡ code.Refused UnknownType → CodesField number z r
   of-field : {f : Field} → placeOf f ≡ number → CodesElement f z r → CodesField number z r
 
 -- ---- REPORTING
@@ -111,52 +113,50 @@ SaysCode uncertaintySpeed elements c = IsCode elements (c .0)
 SaysCode confidence elements c = IsCode elements (c .0)
 
 -- 3 where elements are missing, 7 where they say no code of the field's type, else what the field's reporter tells
-pub data ReportsElements (f : Field) (elements : List ℕ) (r : Told) : Type 0 where
-  too-short : length elements < countOf f → r ≡ told.Refused WrongLength → ReportsElements f elements r
-  no-code : countOf f ≤ length elements → ((c : CodeOf f) → SaysCode f elements c → ⊥) → r ≡ told.Refused OutOfRange → ReportsElements f elements r
+pub data ReportsElements (f : Field) (elements : List ℕ) (r : SaidQuantity) : Type 0 where
+  too-short : length elements < countOf f → r ≡ quantity.Refused WrongLength → ReportsElements f elements r
+  no-code : countOf f ≤ length elements → ((c : CodeOf f) → SaysCode f elements c → ⊥) → r ≡ quantity.Refused OutOfRange → ReportsElements f elements r
   reported : {c : CodeOf f} → SaysCode f elements c → reporting.TellsQuantity f c r → ReportsElements f elements r
 
-pub data ReportsField (number : ℕ) (elements : List ℕ) (r : Told) : Type 0 where
-  no-field : 14 ≤ number → r ≡ told.Refused UnknownType → ReportsField number elements r
+pub data ReportsField (number : ℕ) (elements : List ℕ) (r : SaidQuantity) : Type 0 where
+  no-field : 14 ≤ number → r ≡ quantity.Refused UnknownType → ReportsField number elements r
   of-field : {f : Field} → placeOf f ≡ number → ReportsElements f elements r → ReportsField number elements r
 
 -- ---- WHAT IS PUT
 
-abbrev pub toldOutcome : Told → Outcome
-toldOutcome (told.Refused why) = outcome.Refused why
-toldOutcome told.Missing = outcome.Done
-toldOutcome (told.Natural n) = outcome.Done
-toldOutcome (told.Signed s n) = outcome.Done
-toldOutcome (told.Longitude c) = outcome.Done
-toldOutcome (told.Coordinate x) = outcome.Done
-toldOutcome (told.Altitude a) = outcome.Done
-toldOutcome (told.VerticalSpeed v) = outcome.Done
+abbrev pub saidCodeOutcome : SaidCode → Outcome
+saidCodeOutcome (code.Refused why) = outcome.Refused why
+saidCodeOutcome (code.Natural n) = outcome.Done
+saidCodeOutcome (code.Signed s n) = outcome.Done
+saidCodeOutcome (code.Longitude c) = outcome.Done
 
--- a code's elements; nothing else is told of a code
-abbrev pub toldCodeElements : Told → List ℕ
-toldCodeElements (told.Refused why) = []
-toldCodeElements told.Missing = []
-toldCodeElements (told.Natural n) = n ∷ []
-toldCodeElements (told.Signed s n) = bitOf s ∷ n ∷ []
-toldCodeElements (told.Longitude c) = bitsOf (c .0) ∷ []
-toldCodeElements (told.Coordinate x) = []
-toldCodeElements (told.Altitude a) = []
-toldCodeElements (told.VerticalSpeed v) = []
+-- a code's elements
+abbrev pub saidCodeElements : SaidCode → List ℕ
+saidCodeElements (code.Refused why) = []
+saidCodeElements (code.Natural n) = n ∷ []
+saidCodeElements (code.Signed s n) = bitOf s ∷ n ∷ []
+saidCodeElements (code.Longitude c) = bitsOf (c .0) ∷ []
 
--- a quantity's element; nothing else is told of a quantity
-abbrev pub toldQuantityElements : Told → List ℤ
-toldQuantityElements (told.Refused why) = []
-toldQuantityElements told.Missing = missing ∷ []
-toldQuantityElements (told.Natural n) = pos n ∷ []
-toldQuantityElements (told.Signed s n) = []
-toldQuantityElements (told.Longitude c) = []
-toldQuantityElements (told.Coordinate x) = x .0 ∷ []
-toldQuantityElements (told.Altitude a) = a .0 ∷ []
-toldQuantityElements (told.VerticalSpeed v) = v .0 ∷ []
+abbrev pub saidQuantityOutcome : SaidQuantity → Outcome
+saidQuantityOutcome (quantity.Refused why) = outcome.Refused why
+saidQuantityOutcome quantity.Missing = outcome.Done
+saidQuantityOutcome (quantity.Natural n) = outcome.Done
+saidQuantityOutcome (quantity.Coordinate x) = outcome.Done
+saidQuantityOutcome (quantity.Altitude a) = outcome.Done
+saidQuantityOutcome (quantity.VerticalSpeed v) = outcome.Done
+
+-- a quantity's element
+abbrev pub saidQuantityElements : SaidQuantity → List ℤ
+saidQuantityElements (quantity.Refused why) = []
+saidQuantityElements quantity.Missing = missing ∷ []
+saidQuantityElements (quantity.Natural n) = pos n ∷ []
+saidQuantityElements (quantity.Coordinate x) = x .0 ∷ []
+saidQuantityElements (quantity.Altitude a) = a .0 ∷ []
+saidQuantityElements (quantity.VerticalSpeed v) = v .0 ∷ []
 
 -- ---- the fields of a sort together
 
-abbrev pub CodesNatural : Unsigned → ℤ → Told → Type 0
+abbrev pub CodesNatural : Unsigned → ℤ → SaidCode → Type 0
 CodesNatural unsigned.Uncertainty z r = CodesElement uncertainty z r
 CodesNatural unsigned.AltitudeUncertainty z r = CodesElement altitudeUncertainty z r
 CodesNatural unsigned.InnerRadius z r = CodesElement innerRadius z r
@@ -169,7 +169,7 @@ CodesNatural unsigned.HorizontalSpeed z r = CodesElement horizontalSpeed z r
 CodesNatural unsigned.UncertaintySpeed z r = (z ≡ missing → ⊥) → CodesElement uncertaintySpeed z r
 CodesNatural unsigned.Confidence z r = (z ≡ missing → ⊥) → CodesElement confidence z r
 
-abbrev pub ReportsByte : Byte → List ℕ → Told → Type 0
+abbrev pub ReportsByte : Byte → List ℕ → SaidQuantity → Type 0
 ReportsByte byte.Uncertainty elements r = ReportsElements uncertainty elements r
 ReportsByte byte.AltitudeUncertainty elements r = ReportsElements altitudeUncertainty elements r
 ReportsByte byte.Offset elements r = ReportsElements offset elements r
@@ -178,12 +178,12 @@ ReportsByte byte.Orientation elements r = ReportsElements orientation elements r
 ReportsByte byte.UncertaintySpeed elements r = ReportsElements uncertaintySpeed elements r
 ReportsByte byte.Confidence elements r = ReportsElements confidence elements r
 
-abbrev pub ReportsWord : Word → List ℕ → Told → Type 0
+abbrev pub ReportsWord : Word → List ℕ → SaidQuantity → Type 0
 ReportsWord word.InnerRadius elements r = ReportsElements innerRadius elements r
 ReportsWord word.Bearing elements r = ReportsElements bearing elements r
 ReportsWord word.HorizontalSpeed elements r = ReportsElements horizontalSpeed elements r
 
-abbrev pub ReportsSigned : Signed → List ℕ → Told → Type 0
+abbrev pub ReportsSigned : Signed → List ℕ → SaidQuantity → Type 0
 ReportsSigned signed.Latitude elements r = ReportsElements latitude elements r
 ReportsSigned signed.Altitude elements r = ReportsElements altitude elements r
 ReportsSigned signed.VerticalSpeed elements r = ReportsElements verticalSpeed elements r

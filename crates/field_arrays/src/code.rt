@@ -4,21 +4,21 @@
 use ground::Nanodegrees;
 use ground::Outcome;
 use ground::Refusal;
+use ground::SaidCode;
 use ground::SignedMetresPerHour;
 use ground::SignedMillimetres;
-use ground::Told;
 use ground::Whole;
 use one_field::Coordinate;
 use one_field::Markable;
 use one_field::Unsigned;
 ghost use Rattle.code_arrays.specs.Answers.{PutsElements};
-ghost use Rattle.field_arrays.specs.Fields.{CodesField, CodesNatural, CodesElement, toldOutcome, toldCodeElements};
+ghost use Rattle.field_arrays.specs.Fields.{CodesField, CodesNatural, CodesElement, saidCodeOutcome, saidCodeElements};
 ghost use Rattle.fields.specs.Fields.{altitude, verticalSpeed, uncertaintySpeed, confidence};
 ghost use mathlib.Core.List.{[], _∷_};
 ghost use Rattle.ground.specs.declared.refusals.Outcome.the-variants.{Done};
 
 // The code of the quantity in an element. One that doesn't arrive in its width is out of range; there is no field from 14 on.
-pub fn coded(field: u8, quantity: Whole) -> Told
+pub fn coded(field: u8, quantity: Whole) -> SaidCode
     ensures { λ r. ⌜ CodesField field (quantity .0) r ⌝ }
 {
     match field {
@@ -36,20 +36,20 @@ pub fn coded(field: u8, quantity: Whole) -> Told
         11 => vertical_speed(quantity),
         12 => uncertainty_speed(quantity),
         13 => confidence(quantity),
-        _ => Told::Refused(Refusal::UnknownType),
+        _ => SaidCode::Refused(Refusal::UnknownType),
     }
 }
 
-fn natural(field: Unsigned, quantity: Whole) -> Told
+fn natural(field: Unsigned, quantity: Whole) -> SaidCode
     ensures { λ r. ⌜ CodesNatural field (quantity .0) r ⌝ }
 {
     if !code_arrays::is_natural(quantity) {
-        return Told::Refused(Refusal::OutOfRange);
+        return SaidCode::Refused(Refusal::OutOfRange);
     }
     one_field::coded_unsigned(field, code_arrays::natural(quantity))
 }
 
-fn uncertainty_speed(quantity: Whole) -> Told
+fn uncertainty_speed(quantity: Whole) -> SaidCode
     ensures { λ r. ⌜ CodesElement uncertaintySpeed (quantity .0) r ⌝ }
 {
     if code_arrays::is_missing(quantity) {
@@ -58,7 +58,7 @@ fn uncertainty_speed(quantity: Whole) -> Told
     natural(Unsigned::UncertaintySpeed, quantity)
 }
 
-fn confidence(quantity: Whole) -> Told
+fn confidence(quantity: Whole) -> SaidCode
     ensures { λ r. ⌜ CodesElement confidence (quantity .0) r ⌝ }
 {
     if code_arrays::is_missing(quantity) {
@@ -67,39 +67,35 @@ fn confidence(quantity: Whole) -> Told
     natural(Unsigned::Confidence, quantity)
 }
 
-fn altitude(quantity: Whole) -> Told
+fn altitude(quantity: Whole) -> SaidCode
     ensures { λ r. ⌜ CodesElement altitude (quantity .0) r ⌝ }
 {
     if !code_arrays::is_signed(quantity) {
-        return Told::Refused(Refusal::OutOfRange);
+        return SaidCode::Refused(Refusal::OutOfRange);
     }
     let height = code_arrays::signed(quantity);
     one_field::coded_altitude(SignedMillimetres(height.0))
 }
 
-fn vertical_speed(quantity: Whole) -> Told
+fn vertical_speed(quantity: Whole) -> SaidCode
     ensures { λ r. ⌜ CodesElement verticalSpeed (quantity .0) r ⌝ }
 {
     if !code_arrays::is_signed(quantity) {
-        return Told::Refused(Refusal::OutOfRange);
+        return SaidCode::Refused(Refusal::OutOfRange);
     }
     let speed = code_arrays::signed(quantity);
     one_field::coded_vertical_speed(SignedMetresPerHour(speed.0))
 }
 
 // Puts a code's numbers: S or D and N, or N alone.
-pub fn put_code(out: &mut [u32], told: Told) -> Whole
-    ensures { λ r. ⌜ PutsElements (toldOutcome told) (toldCodeElements told) (now (out .entry)) (now (out .exit)) (r .0) ⌝ }
+pub fn put_code(out: &mut [u32], said: SaidCode) -> Whole
+    ensures { λ r. ⌜ PutsElements (saidCodeOutcome said) (saidCodeElements said) (now (out .entry)) (now (out .exit)) (r .0) ⌝ }
 {
-    match told {
-        Told::Refused(why) => code_arrays::answer(Outcome::Refused(why), 0),
-        Told::Missing => code_arrays::answer(Outcome::Done, 0),
-        Told::Natural(n) => put_one(out, n),
-        Told::Signed(sign, n) => put_two(out, code_arrays::bit(sign), n),
-        Told::Longitude(code) => put_one(out, code_arrays::complement_of(code)),
-        Told::Coordinate(_) => code_arrays::answer(Outcome::Done, 0),
-        Told::Altitude(_) => code_arrays::answer(Outcome::Done, 0),
-        Told::VerticalSpeed(_) => code_arrays::answer(Outcome::Done, 0),
+    match said {
+        SaidCode::Refused(why) => code_arrays::answer(Outcome::Refused(why), 0),
+        SaidCode::Natural(n) => put_one(out, n),
+        SaidCode::Signed(sign, n) => put_two(out, code_arrays::bit(sign), n),
+        SaidCode::Longitude(code) => put_one(out, code_arrays::complement_of(code)),
     }
 }
 

@@ -2,19 +2,19 @@
 use code_arrays::Narrow;
 use ground::Outcome;
 use ground::Refusal;
-use ground::Told;
+use ground::SaidQuantity;
 use ground::Whole;
 use one_field::Byte;
 use one_field::Signed;
 use one_field::Word;
 ghost use mathlib.Core.List.{[], _∷_};
 ghost use Rattle.code_arrays.specs.Answers.{PutsElements};
-ghost use Rattle.field_arrays.specs.Fields.{ReportsField, ReportsSigned, ReportsByte, ReportsWord, ReportsElements, toldOutcome, toldQuantityElements};
+ghost use Rattle.field_arrays.specs.Fields.{ReportsField, ReportsSigned, ReportsByte, ReportsWord, ReportsElements, saidQuantityOutcome, saidQuantityElements};
 ghost use Rattle.fields.specs.Fields.{longitude};
 ghost use Rattle.ground.specs.declared.refusals.Outcome.the-variants.{Done};
 
 // The quantity of the code in elements. Too few of them are refused with 3; there is no field from 14 on.
-pub fn reported(field: u8, code: &[u32]) -> Told
+pub fn reported(field: u8, code: &[u32]) -> SaidQuantity
     ensures { λ r. ⌜ ReportsField field (now (code .entry)) r ⌝ }
 {
     match field {
@@ -32,64 +32,62 @@ pub fn reported(field: u8, code: &[u32]) -> Told
         11 => signed(Signed::VerticalSpeed, code),
         12 => byte(Byte::UncertaintySpeed, code),
         13 => byte(Byte::Confidence, code),
-        _ => Told::Refused(Refusal::UnknownType),
+        _ => SaidQuantity::Refused(Refusal::UnknownType),
     }
 }
 
 // S or D, which is 0 or 1, and N.
-fn signed(field: Signed, code: &[u32]) -> Told
+fn signed(field: Signed, code: &[u32]) -> SaidQuantity
     ensures { λ r. ⌜ ReportsSigned field (now (code .entry)) r ⌝ }
 {
     if code.len() < 2 {
-        return Told::Refused(Refusal::WrongLength);
+        return SaidQuantity::Refused(Refusal::WrongLength);
     }
     let sign = code[0];
     if 1 < sign {
-        return Told::Refused(Refusal::OutOfRange);
+        return SaidQuantity::Refused(Refusal::OutOfRange);
     }
     one_field::reported_signed(field, sign == 1, code[1])
 }
 
-fn byte(field: Byte, code: &[u32]) -> Told
+fn byte(field: Byte, code: &[u32]) -> SaidQuantity
     ensures { λ r. ⌜ ReportsByte field (now (code .entry)) r ⌝ }
 {
     if code.len() < 1 {
-        return Told::Refused(Refusal::WrongLength);
+        return SaidQuantity::Refused(Refusal::WrongLength);
     }
     one_field::reported_byte(field, code[0])
 }
 
-fn word(field: Word, code: &[u32]) -> Told
+fn word(field: Word, code: &[u32]) -> SaidQuantity
     ensures { λ r. ⌜ ReportsWord field (now (code .entry)) r ⌝ }
 {
     if code.len() < 1 {
-        return Told::Refused(Refusal::WrongLength);
+        return SaidQuantity::Refused(Refusal::WrongLength);
     }
     one_field::reported_word(field, code[0])
 }
 
-fn longitude(code: &[u32]) -> Told
+fn longitude(code: &[u32]) -> SaidQuantity
     ensures { λ r. ⌜ ReportsElements longitude (now (code .entry)) r ⌝ }
 {
     if code.len() < 1 {
-        return Told::Refused(Refusal::WrongLength);
+        return SaidQuantity::Refused(Refusal::WrongLength);
     }
     one_field::reported_longitude(code_arrays::longitude_of(code[0]))
 }
 
 // Puts a quantity, or the mark of a missing one.
-pub fn put_quantity(out: &mut [i64], told: Told) -> Whole
-    ensures { λ r. ⌜ PutsElements (toldOutcome told) (toldQuantityElements told) (now (out .entry)) (now (out .exit)) (r .0) ⌝ }
+pub fn put_quantity(out: &mut [i64], said: SaidQuantity) -> Whole
+    ensures { λ r. ⌜ PutsElements (saidQuantityOutcome said) (saidQuantityElements said) (now (out .entry)) (now (out .exit)) (r .0) ⌝ }
 {
-    match told {
-        Told::Refused(why) => code_arrays::answer(Outcome::Refused(why), 0),
-        Told::Missing => put_one(out, code_arrays::missing()),
-        Told::Natural(n) => put_one(out, code_arrays::wide(n)),
-        Told::Signed(_, _) => code_arrays::answer(Outcome::Done, 0),
-        Told::Longitude(_) => code_arrays::answer(Outcome::Done, 0),
-        Told::Coordinate(x) => put_one(out, Whole(x.0)),
-        Told::Altitude(x) => put_one(out, code_arrays::wide_signed(Narrow(x.0))),
-        Told::VerticalSpeed(x) => put_one(out, code_arrays::wide_signed(Narrow(x.0))),
+    match said {
+        SaidQuantity::Refused(why) => code_arrays::answer(Outcome::Refused(why), 0),
+        SaidQuantity::Missing => put_one(out, code_arrays::missing()),
+        SaidQuantity::Natural(n) => put_one(out, code_arrays::wide(n)),
+        SaidQuantity::Coordinate(x) => put_one(out, Whole(x.0)),
+        SaidQuantity::Altitude(x) => put_one(out, code_arrays::wide_signed(Narrow(x.0))),
+        SaidQuantity::VerticalSpeed(x) => put_one(out, code_arrays::wide_signed(Narrow(x.0))),
     }
 }
 

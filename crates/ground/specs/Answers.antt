@@ -4,8 +4,6 @@ use mathlib.Core.Bool.{Bool, true, false}
 use mathlib.Core.List.{[], _∷_}
 use Prim.Native.Nat.{ℕ, _-_}
 use lib.ListN.{getD}
-use Rattle.ground.specs.declared.told.Told.{Told}
-use Rattle.ground.specs.declared.told.Told.the-variants.{Refused}
 use Rattle.ground.specs.declared.refusals.Outcome.{Outcome}
 use Rattle.ground.specs.declared.refusals.Outcome.the-variants as outcome
 use Rattle.ground.specs.declared.refusals.Refusal.{Refusal}
@@ -80,6 +78,6 @@ abbrev pub Always : {A : Type 0} → (A → Type 0) → Said A → Type 0
 Always right = Answer right 0 ⊥
 
 -- What an answer tells in plain numbers: the value's, or the refusal.
-abbrev pub tells : {A : Type 0} → (A → Told) → Said A → Told
-tells numbers (done a) = numbers a
-tells numbers (refused n) = Refused (refusalOf n)
+abbrev pub tells : {A B : Type 0} → (A → B) → (Refusal → B) → Said A → B
+tells numbers why (done a) = numbers a
+tells numbers why (refused n) = why (refusalOf n)

@@ -3,8 +3,8 @@
 mod code;
 mod quantity;
 mod refusals;
+mod said;
 mod signs;
-mod told;
 
 pub use code::AltitudeCode;
 pub use code::AltitudeUncertaintyCode;
@@ -31,8 +31,9 @@ pub use quantity::UncertaintySpeed;
 pub use refusals::Outcome;
 pub use refusals::Refusal;
 pub use refusals::refusal_number;
+pub use said::SaidCode;
+pub use said::SaidQuantity;
 pub use signs::Parts;
 pub use signs::Whole;
 pub use signs::joined;
 pub use signs::taken_apart;
-pub use told::Told;

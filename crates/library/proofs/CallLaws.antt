@@ -35,7 +35,7 @@ use Rattle.code_arrays.proofs.PutLaws.{puts-by}
 use Rattle.array_reading.specs.Reading.{ReadsInto, ReadsMotionInto}
 use Rattle.array_reports.specs.Reports.{ReportsInto}
 use Rattle.array_records.specs.Records.{CodeElementsAnswer, CodesInto}
-use Rattle.library.specs.Promises.{ReadsShapeInto, ReadsVelocityInto, WritesTold, ReportsShapeInto, ReportsVelocityIn, CodesShapeInto, CodesVelocityIn, KindAnswer}
+use Rattle.library.specs.Promises.{ReadsShapeInto, ReadsVelocityInto, WritesSaid, ReportsShapeInto, ReportsVelocityIn, CodesShapeInto, CodesVelocityIn, KindAnswer}
 
 -- ---- no longer than the room
 
@@ -66,17 +66,17 @@ chosen-within w p = chosen-short p
 
 -- ---- what is put, and the number that is handed back
 
-pub read-told : {s before after : List ℕ} {left : Outcome} {n : ℤ} → ReadsInto s before after left → n ≡ answerOf left 61 → ReadsShapeInto s before after n
-read-told r e = record { read = r .read; promise = r .promise; put = puts-by {outcome = r .read .outcome} (r .roomed) e (r .array) }
+pub read-said : {s before after : List ℕ} {left : Outcome} {n : ℤ} → ReadsInto s before after left → n ≡ answerOf left 61 → ReadsShapeInto s before after n
+read-said r e = record { read = r .read; promise = r .promise; put = puts-by {outcome = r .read .outcome} (r .roomed) e (r .array) }
 
-pub motion-told : {s before after : List ℕ} {left : Outcome} {n : ℤ} → ReadsMotionInto s before after left → n ≡ answerOf left 7 → ReadsVelocityInto s before after n
-motion-told r e = record { read = r .read; promise = r .promise; put = puts-by {outcome = r .read .outcome} (r .roomed) e (r .array) }
+pub motion-said : {s before after : List ℕ} {left : Outcome} {n : ℤ} → ReadsMotionInto s before after left → n ≡ answerOf left 7 → ReadsVelocityInto s before after n
+motion-said r e = record { read = r .read; promise = r .promise; put = puts-by {outcome = r .read .outcome} (r .roomed) e (r .array) }
 
-pub report-told : {elements : List ℕ} {before after : List ℤ} {left : Outcome} {n : ℤ} → ReportsInto elements before after left → n ≡ answerOf left 44 → ReportsShapeInto elements before after n
-report-told r e = record { reported = r .reported; promise = r .promise; put = puts-by {outcome = r .reported .outcome} (r .roomed) e (r .array) }
+pub report-said : {elements : List ℕ} {before after : List ℤ} {left : Outcome} {n : ℤ} → ReportsInto elements before after left → n ≡ answerOf left 44 → ReportsShapeInto elements before after n
+report-said r e = record { reported = r .reported; promise = r .promise; put = puts-by {outcome = r .reported .outcome} (r .roomed) e (r .array) }
 
-pub code-told : {elements : List ℤ} {before after : List ℕ} {left : Outcome} {n : ℤ} → CodesInto elements before after left → n ≡ answerOf left 61 → CodesShapeInto elements before after n
-code-told r e = record { coded = r .coded; promise = r .promise; put = puts-by {outcome = r .coded .outcome} (r .roomed) e (r .array) }
+pub code-said : {elements : List ℤ} {before after : List ℕ} {left : Outcome} {n : ℤ} → CodesInto elements before after left → n ≡ answerOf left 61 → CodesShapeInto elements before after n
+code-said r e = record { coded = r .coded; promise = r .promise; put = puts-by {outcome = r .coded .outcome} (r .roomed) e (r .array) }
 
 -- ---- 7, after what comes before it
 
@@ -84,16 +84,12 @@ none-written : {A : Type 0} (o : Outcome) (a b : A) → b ≡ handed (elseOutOfR
 none-written Done a b = refl
 none-written (Refused why) a b = refl
 
-none-told : (o : Outcome) (m n : ℕ) → answerOf (elseOutOfRange o) m ≡ answerOf (elseOutOfRange o) n
-none-told Done m n = refl
-none-told (Refused why) m n = refl
-
-pub misfit-told : {rows : List Row} {value : MessageField → ℕ} {before : List ℕ} {n : ℤ} (o : Outcome) → WriteAnswer rows value (length before) (outcomeNumber (elseOutOfRange o))
-    → n ≡ answerOf (elseOutOfRange o) 0 → WritesTold rows value before before n
-misfit-told o a e = record {
+pub misfit-said : {rows : List Row} {value : MessageField → ℕ} {before : List ℕ} {n : ℤ} (o : Outcome) → WriteAnswer rows value (length before) (outcomeNumber (elseOutOfRange o))
+    → n ≡ answerOf (elseOutOfRange o) 0 → WritesSaid rows value before before n
+misfit-said o a e = record {
   written = record { outcome = elseOutOfRange o; length = 0 };
   promise = record { answer = a; written = none-written o _ 0; buffer = none-written o _ _ };
-  told = e;
+  said = e;
 }
 
 -- what a refusal hands back

@@ -4,7 +4,8 @@ use mathlib.Core.List.{List}
 use Prim.Native.Nat.{ℕ}
 use lib.IntN.{ℤ, negsuc}
 use Rattle.ground.specs.Answers.{outcomeNumber, Unless, Else0}
-use Rattle.ground.specs.declared.told.Told.{Told}
+use Rattle.ground.specs.declared.said.SaidCode.{SaidCode}
+use Rattle.ground.specs.declared.said.SaidQuantity.{SaidQuantity}
 use Rattle.layout.specs.declared.Written.{Written}
 use Rattle.layout.specs.declared.shape.ShapeRead.{ShapeRead}
 use Rattle.layout.specs.declared.velocity.VelocityKind.{VelocityKind}
@@ -32,8 +33,7 @@ use Rattle.code_arrays.specs.Velocities.{velocityElements, arrayVelocityRows, v
 use Rattle.quantity_arrays.specs.Shapes.{quantityElements}
 use Rattle.quantity_arrays.specs.Velocities.{velocityQuantityElements, velocityQuantitiesIn, VelocityArrives}
 use Rattle.library.specs.Requests.{ElementsSay}
-use Rattle.field_arrays.specs.Fields.{CodesField, ReportsField, toldOutcome}
-use Rattle.field_arrays.specs.Fields as single
+use Rattle.field_arrays.specs.Fields.{CodesField, ReportsField, saidCodeOutcome, saidCodeElements, saidQuantityOutcome, saidQuantityElements}
 
 -- ---- READING: what a reader that keeps its promise hands back is put into the array
 
@@ -47,18 +47,18 @@ pub record ReadsVelocityInto (s before after : List ℕ) (n : ℤ) : Type 0 wher
   pub promise : ReadsVelocity s read
   pub put : PutsElements (read .outcome) (velocityElements (read .velocity)) before after n
 
--- ---- WRITING the record that elements say, and telling what a writer that keeps its promise answers
+-- ---- WRITING the record that elements say, and saying what a writer that keeps its promise answers
 
-pub record WritesTold (rows : List Row) (value : MessageField → ℕ) (before after : List ℕ) (n : ℤ) : Type 0 where
+pub record WritesSaid (rows : List Row) (value : MessageField → ℕ) (before after : List ℕ) (n : ℤ) : Type 0 where
   pub written : Written
   pub promise : Writes rows value before after written
-  pub told : n ≡ answerOf (written .outcome) (written .length)
+  pub said : n ≡ answerOf (written .outcome) (written .length)
 
 abbrev pub WritesShapeFrom : List ℕ → List ℕ → List ℕ → ℤ → Type 0
-WritesShapeFrom elements before after n = OfArray 61 elements before after n (WritesTold (arrayRows elements) (valueIn elements) before after n)
+WritesShapeFrom elements before after n = OfArray 61 elements before after n (WritesSaid (arrayRows elements) (valueIn elements) before after n)
 
 abbrev pub WritesVelocityFrom : List ℕ → List ℕ → List ℕ → ℤ → Type 0
-WritesVelocityFrom elements before after n = OfArray 7 elements before after n (WritesTold (arrayVelocityRows elements) (velocityValueIn elements) before after n)
+WritesVelocityFrom elements before after n = OfArray 7 elements before after n (WritesSaid (arrayVelocityRows elements) (velocityValueIn elements) before after n)
 
 -- ---- REPORTING the record that elements say: one that the writer would refuse, room given, is refused with the same number
 
@@ -117,14 +117,14 @@ ChoosesFrom elements list before after n = OfArray 8 elements before after n (Ch
 -- ---- ONE FIELD'S code and quantity
 
 pub record CodesOne (field : ℕ) (quantity : ℤ) (before after : List ℕ) (n : ℤ) : Type 0 where
-  pub told : Told
-  pub promise : CodesField field quantity told
-  pub put : PutsElements (toldOutcome told) (single.toldCodeElements told) before after n
+  pub said : SaidCode
+  pub promise : CodesField field quantity said
+  pub put : PutsElements (saidCodeOutcome said) (saidCodeElements said) before after n
 
 pub record ReportsOne (field : ℕ) (code : List ℕ) (before after : List ℤ) (n : ℤ) : Type 0 where
-  pub told : Told
-  pub promise : ReportsField field code told
-  pub put : PutsElements (toldOutcome told) (single.toldQuantityElements told) before after n
+  pub said : SaidQuantity
+  pub promise : ReportsField field code said
+  pub put : PutsElements (saidQuantityOutcome said) (saidQuantityElements said) before after n
 
 -- ---- the parts
 

@@ -1,4 +1,4 @@
--- THE REQUEST IN EIGHT CELLS.
+-- THE REQUEST IN EIGHT ELEMENTS.
 use mathlib.Core.Path.{_≡_}
 use mathlib.Core.List.{List}
 use Prim.Native.Nat.{ℕ, _<_, _^_}

@@ -5,8 +5,8 @@ use Rattle.ground.specs.Answers.{Said, tells}
 use Rattle.ground.specs.declared.quantity.Nanodegrees.{Nanodegrees}
 use Rattle.ground.specs.declared.quantity.UncertaintySpeed.the-variants as uncertain
 use Rattle.ground.specs.declared.quantity.Confidence.the-variants as confident
-use Rattle.ground.specs.declared.told.Told.{Told}
-use Rattle.ground.specs.declared.told.Told.the-variants.{Natural, Signed, Longitude}
+use Rattle.ground.specs.declared.said.SaidCode.{SaidCode}
+use Rattle.ground.specs.declared.said.SaidCode.the-variants.{Refused, Natural, Signed, Longitude}
 use Rattle.one_field.specs.declared.coding.Coordinate.{Coordinate}
 use Rattle.one_field.specs.declared.coding.Coordinate.the-variants as coordinate
 use Rattle.one_field.specs.declared.coding.Unsigned.{Unsigned}
@@ -15,22 +15,22 @@ use Rattle.one_field.specs.declared.coding.Markable.{Markable}
 use Rattle.one_field.specs.declared.coding.Markable.the-variants as markable
 use Rattle.fields.specs.Fields.{Field, latitude, longitude, uncertainty, altitudeUncertainty, altitude, innerRadius, offset, included, orientation, bearing, horizontalSpeed, verticalSpeed, uncertaintySpeed, confidence, CodeOf, QuantityOf, CodedOf, saidCode, Coding}
 
--- a code's numbers: a sign and a number, or one number
-abbrev pub toldCode : (f : Field) → CodeOf f → Told
-toldCode latitude c = Signed (c .0) (c .1)
-toldCode longitude c = Longitude c
-toldCode uncertainty c = Natural (c .0)
-toldCode altitudeUncertainty c = Natural (c .0)
-toldCode altitude c = Signed (c .0) (c .1)
-toldCode innerRadius c = Natural (c .0)
-toldCode offset c = Natural (c .0)
-toldCode included c = Natural (c .0)
-toldCode orientation c = Natural (c .0)
-toldCode bearing c = Natural (c .0)
-toldCode horizontalSpeed c = Natural (c .0)
-toldCode verticalSpeed c = Signed (c .0) (c .1)
-toldCode uncertaintySpeed c = Natural (c .0)
-toldCode confidence c = Natural (c .0)
+-- a code in plain numbers: a sign and a number, or one number
+abbrev pub saidCodeNumbers : (f : Field) → CodeOf f → SaidCode
+saidCodeNumbers latitude c = Signed (c .0) (c .1)
+saidCodeNumbers longitude c = Longitude c
+saidCodeNumbers uncertainty c = Natural (c .0)
+saidCodeNumbers altitudeUncertainty c = Natural (c .0)
+saidCodeNumbers altitude c = Signed (c .0) (c .1)
+saidCodeNumbers innerRadius c = Natural (c .0)
+saidCodeNumbers offset c = Natural (c .0)
+saidCodeNumbers included c = Natural (c .0)
+saidCodeNumbers orientation c = Natural (c .0)
+saidCodeNumbers bearing c = Natural (c .0)
+saidCodeNumbers horizontalSpeed c = Natural (c .0)
+saidCodeNumbers verticalSpeed c = Signed (c .0) (c .1)
+saidCodeNumbers uncertaintySpeed c = Natural (c .0)
+saidCodeNumbers confidence c = Natural (c .0)
 
 -- how many numbers it has
 abbrev pub countOf : Field → ℕ
@@ -49,21 +49,21 @@ countOf verticalSpeed = 2
 countOf uncertaintySpeed = 1
 countOf confidence = 1
 
--- what a coder's answer tells
-abbrev pub toldBy : (f : Field) → CodedOf f → Told
-toldBy f r = tells (toldCode f) (saidCode f r)
+-- what a coder's answer says in plain numbers
+abbrev pub saidByCoder : (f : Field) → CodedOf f → SaidCode
+saidByCoder f r = tells (saidCodeNumbers f) Refused (saidCode f r)
 
 -- r tells what a coder that keeps its promise says of x
-pub record TellsCode (f : Field) (x : QuantityOf f) (r : Told) : Type 0 where
+pub record TellsCode (f : Field) (x : QuantityOf f) (r : SaidCode) : Type 0 where
   pub said : Said (CodeOf f)
   pub promise : Coding f x said
-  pub told : r ≡ tells (toldCode f) said
+  pub told : r ≡ tells (saidCodeNumbers f) Refused said
 
-abbrev pub TellsCoordinate : Coordinate → Nanodegrees → Told → Type 0
+abbrev pub TellsCoordinate : Coordinate → Nanodegrees → SaidCode → Type 0
 TellsCoordinate coordinate.Latitude x r = TellsCode latitude x r
 TellsCoordinate coordinate.Longitude x r = TellsCode longitude x r
 
-abbrev pub TellsUnsigned : Unsigned → ℕ → Told → Type 0
+abbrev pub TellsUnsigned : Unsigned → ℕ → SaidCode → Type 0
 TellsUnsigned unsigned.Uncertainty x r = TellsCode uncertainty (record { 0 = x }) r
 TellsUnsigned unsigned.AltitudeUncertainty x r = TellsCode altitudeUncertainty (record { 0 = x }) r
 TellsUnsigned unsigned.InnerRadius x r = TellsCode innerRadius (record { 0 = x }) r
@@ -75,6 +75,6 @@ TellsUnsigned unsigned.HorizontalSpeed x r = TellsCode horizontalSpeed (record {
 TellsUnsigned unsigned.UncertaintySpeed x r = TellsCode uncertaintySpeed (uncertain.Speed (record { 0 = x })) r
 TellsUnsigned unsigned.Confidence x r = TellsCode confidence (confident.PerCent x) r
 
-abbrev pub TellsMissing : Markable → Told → Type 0
+abbrev pub TellsMissing : Markable → SaidCode → Type 0
 TellsMissing markable.UncertaintySpeed r = TellsCode uncertaintySpeed uncertain.Missing r
 TellsMissing markable.Confidence r = TellsCode confidence confident.Missing r

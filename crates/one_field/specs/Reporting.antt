@@ -4,16 +4,14 @@ use mathlib.Core.Bool.{Bool}
 use Prim.Native.Nat.{ℕ}
 use Rattle.ground.specs.Answers.{Said, tells}
 use Rattle.ground.specs.declared.refusals.Refusal.the-variants.{AngleCode, ConfidenceTooLarge, OutOfRange}
-use Rattle.ground.specs.declared.quantity.Nanodegrees.{Nanodegrees}
 use Rattle.ground.specs.declared.quantity.Millidegrees.{Millidegrees}
 use Rattle.ground.specs.declared.quantity.Millimetres.{Millimetres}
-use Rattle.ground.specs.declared.quantity.SignedMillimetres.{SignedMillimetres}
 use Rattle.ground.specs.declared.quantity.UncertaintySpeed.{UncertaintySpeed}
 use Rattle.ground.specs.declared.quantity.UncertaintySpeed.the-variants as uncertain
 use Rattle.ground.specs.declared.quantity.Confidence.{Confidence}
 use Rattle.ground.specs.declared.quantity.Confidence.the-variants as confident
-use Rattle.ground.specs.declared.told.Told.{Told}
-use Rattle.ground.specs.declared.told.Told.the-variants as told
+use Rattle.ground.specs.declared.said.SaidQuantity.{SaidQuantity}
+use Rattle.ground.specs.declared.said.SaidQuantity.the-variants.{Refused, Missing, Natural, Coordinate, Altitude, VerticalSpeed}
 use Rattle.one_field.specs.declared.reporting.Byte.{Byte}
 use Rattle.one_field.specs.declared.reporting.Byte.the-variants as byte
 use Rattle.one_field.specs.declared.reporting.Word.{Word}
@@ -22,50 +20,44 @@ use Rattle.one_field.specs.declared.reporting.Signed.{Signed}
 use Rattle.one_field.specs.declared.reporting.Signed.the-variants as signed
 use Rattle.fields.specs.Fields.{Field, latitude, longitude, uncertainty, altitudeUncertainty, altitude, innerRadius, offset, included, orientation, bearing, horizontalSpeed, verticalSpeed, uncertaintySpeed, confidence, CodeOf, QuantityOf, Reporting}
 
-abbrev pub toldCoordinate : Nanodegrees → Told
-toldCoordinate x = told.Coordinate x
+abbrev pub saidLengthNumber : Millimetres → SaidQuantity
+saidLengthNumber x = Natural (x .0)
 
-abbrev pub toldLength : Millimetres → Told
-toldLength x = told.Natural (x .0)
+abbrev pub saidAngleNumber : Millidegrees → SaidQuantity
+saidAngleNumber x = Natural (x .0)
 
-abbrev pub toldAltitude : SignedMillimetres → Told
-toldAltitude x = told.Altitude x
+abbrev pub saidUncertaintySpeedNumber : UncertaintySpeed → SaidQuantity
+saidUncertaintySpeedNumber (uncertain.Speed s) = Natural (s .0)
+saidUncertaintySpeedNumber uncertain.Missing = Missing
 
-abbrev pub toldAngle : Millidegrees → Told
-toldAngle x = told.Natural (x .0)
+abbrev pub saidConfidenceNumber : Confidence → SaidQuantity
+saidConfidenceNumber (confident.PerCent p) = Natural p
+saidConfidenceNumber confident.Missing = Missing
 
-abbrev pub toldUncertaintySpeed : UncertaintySpeed → Told
-toldUncertaintySpeed (uncertain.Speed s) = told.Natural (s .0)
-toldUncertaintySpeed uncertain.Missing = told.Missing
-
-abbrev pub toldPerCent : Confidence → Told
-toldPerCent (confident.PerCent p) = told.Natural p
-toldPerCent confident.Missing = told.Missing
-
--- a quantity's number, or the mark of a missing one
-abbrev pub toldQuantity : (f : Field) → QuantityOf f → Told
-toldQuantity latitude x = toldCoordinate x
-toldQuantity longitude x = toldCoordinate x
-toldQuantity uncertainty x = toldLength x
-toldQuantity altitudeUncertainty x = toldLength x
-toldQuantity altitude x = toldAltitude x
-toldQuantity innerRadius x = toldLength x
-toldQuantity offset x = toldAngle x
-toldQuantity included x = toldAngle x
-toldQuantity orientation x = toldAngle x
-toldQuantity bearing x = toldAngle x
-toldQuantity horizontalSpeed x = told.Natural (x .0)
-toldQuantity verticalSpeed x = told.VerticalSpeed x
-toldQuantity uncertaintySpeed x = toldUncertaintySpeed x
-toldQuantity confidence x = toldPerCent x
+-- a quantity in plain numbers: its number, or the mark of a missing one
+abbrev pub saidQuantityNumber : (f : Field) → QuantityOf f → SaidQuantity
+saidQuantityNumber latitude x = Coordinate x
+saidQuantityNumber longitude x = Coordinate x
+saidQuantityNumber uncertainty x = saidLengthNumber x
+saidQuantityNumber altitudeUncertainty x = saidLengthNumber x
+saidQuantityNumber altitude x = Altitude x
+saidQuantityNumber innerRadius x = saidLengthNumber x
+saidQuantityNumber offset x = saidAngleNumber x
+saidQuantityNumber included x = saidAngleNumber x
+saidQuantityNumber orientation x = saidAngleNumber x
+saidQuantityNumber bearing x = saidAngleNumber x
+saidQuantityNumber horizontalSpeed x = Natural (x .0)
+saidQuantityNumber verticalSpeed x = VerticalSpeed x
+saidQuantityNumber uncertaintySpeed x = saidUncertaintySpeedNumber x
+saidQuantityNumber confidence x = saidConfidenceNumber x
 
 -- r tells what a reporter that keeps its promise says of the code c
-pub record TellsQuantity (f : Field) (c : CodeOf f) (r : Told) : Type 0 where
+pub record TellsQuantity (f : Field) (c : CodeOf f) (r : SaidQuantity) : Type 0 where
   pub said : Said (QuantityOf f)
   pub promise : Reporting f c said
-  pub told : r ≡ tells (toldQuantity f) said
+  pub told : r ≡ tells (saidQuantityNumber f) Refused said
 
-abbrev pub TellsByte : Byte → ℕ → Told → Type 0
+abbrev pub TellsByte : Byte → ℕ → SaidQuantity → Type 0
 TellsByte byte.Uncertainty n r = TellsQuantity uncertainty (record { 0 = n }) r
 TellsByte byte.AltitudeUncertainty n r = TellsQuantity altitudeUncertainty (record { 0 = n }) r
 TellsByte byte.Offset n r = TellsQuantity offset (record { 0 = n }) r
@@ -74,27 +66,27 @@ TellsByte byte.Orientation n r = TellsQuantity orientation (record { 0 = n }) r
 TellsByte byte.UncertaintySpeed n r = TellsQuantity uncertaintySpeed (record { 0 = n }) r
 TellsByte byte.Confidence n r = TellsQuantity confidence (record { 0 = n }) r
 
-abbrev pub TellsWord : Word → ℕ → Told → Type 0
+abbrev pub TellsWord : Word → ℕ → SaidQuantity → Type 0
 TellsWord word.InnerRadius n r = TellsQuantity innerRadius (record { 0 = n }) r
 TellsWord word.Bearing n r = TellsQuantity bearing (record { 0 = n }) r
 TellsWord word.HorizontalSpeed n r = TellsQuantity horizontalSpeed (record { 0 = n }) r
 
-abbrev pub TellsSigned : Signed → Bool → ℕ → Told → Type 0
+abbrev pub TellsSigned : Signed → Bool → ℕ → SaidQuantity → Type 0
 TellsSigned signed.Latitude s n r = TellsQuantity latitude (record { 0 = s; 1 = n }) r
 TellsSigned signed.Altitude s n r = TellsQuantity altitude (record { 0 = s; 1 = n }) r
 TellsSigned signed.VerticalSpeed s n r = TellsQuantity verticalSpeed (record { 0 = s; 1 = n }) r
 
 -- what a number that 8 or 16 bits can't hold is refused with
-abbrev pub aboveByte : Byte → Told
-aboveByte byte.Uncertainty = told.Refused OutOfRange
-aboveByte byte.AltitudeUncertainty = told.Refused OutOfRange
-aboveByte byte.Offset = told.Refused AngleCode
-aboveByte byte.Included = told.Refused AngleCode
-aboveByte byte.Orientation = told.Refused AngleCode
-aboveByte byte.UncertaintySpeed = told.Refused OutOfRange
-aboveByte byte.Confidence = told.Refused ConfidenceTooLarge
+abbrev pub aboveByte : Byte → SaidQuantity
+aboveByte byte.Uncertainty = Refused OutOfRange
+aboveByte byte.AltitudeUncertainty = Refused OutOfRange
+aboveByte byte.Offset = Refused AngleCode
+aboveByte byte.Included = Refused AngleCode
+aboveByte byte.Orientation = Refused AngleCode
+aboveByte byte.UncertaintySpeed = Refused OutOfRange
+aboveByte byte.Confidence = Refused ConfidenceTooLarge
 
-abbrev pub aboveWord : Word → Told
-aboveWord word.InnerRadius = told.Refused OutOfRange
-aboveWord word.Bearing = told.Refused AngleCode
-aboveWord word.HorizontalSpeed = told.Refused OutOfRange
+abbrev pub aboveWord : Word → SaidQuantity
+aboveWord word.InnerRadius = Refused OutOfRange
+aboveWord word.Bearing = Refused AngleCode
+aboveWord word.HorizontalSpeed = Refused OutOfRange

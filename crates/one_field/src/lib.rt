@@ -1,8 +1,8 @@
 // One field by its number in a line or an array: what codes a quantity of it, and what a code of it reports.
 mod coding;
 mod reporting;
-mod told_codes;
-mod told_quantities;
+mod said_codes;
+mod said_quantities;
 
 pub use coding::Coordinate;
 pub use coding::Markable;

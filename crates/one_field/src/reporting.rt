@@ -1,7 +1,7 @@
 // The reporters side by side, with answers in plain numbers. A number that a code's own type can't hold is refused as one
 // that its field can't hold.
 
-use crate::told_quantities;
+use crate::said_quantities;
 use ground::AltitudeCode;
 use ground::AltitudeUncertaintyCode;
 use ground::BearingCode;
@@ -14,7 +14,7 @@ use ground::LongitudeCode;
 use ground::OffsetCode;
 use ground::OrientationCode;
 use ground::Refusal;
-use ground::Told;
+use ground::SaidQuantity;
 use ground::UncertaintyCode;
 use ground::UncertaintySpeedCode;
 use ground::VerticalSpeedCode;
@@ -47,71 +47,71 @@ pub enum Signed {
     VerticalSpeed,
 }
 
-pub fn reported_byte(field: Byte, n: u32) -> Told
+pub fn reported_byte(field: Byte, n: u32) -> SaidQuantity
     ensures { λ r. ⌜ TellsByte field n r ⌝ }
 {
     if 255 < n {
         return above_byte(field);
     }
     match field {
-        Byte::Uncertainty => told_quantities::radius(radii::reported_uncertainty(UncertaintyCode(
+        Byte::Uncertainty => said_quantities::radius(radii::reported_uncertainty(UncertaintyCode(
             n as u8,
         ))),
         Byte::AltitudeUncertainty =>
-            told_quantities::radius(radii::reported_altitude_uncertainty(AltitudeUncertaintyCode(
+            said_quantities::radius(radii::reported_altitude_uncertainty(AltitudeUncertaintyCode(
                 n as u8,
             ))),
-        Byte::Offset => told_quantities::angle(angles::reported_offset(OffsetCode(n as u8))),
-        Byte::Included => told_quantities::angle(angles::reported_included(IncludedCode(n as u8))),
-        Byte::Orientation => told_quantities::angle(angles::reported_orientation(OrientationCode(
+        Byte::Offset => said_quantities::angle(angles::reported_offset(OffsetCode(n as u8))),
+        Byte::Included => said_quantities::angle(angles::reported_included(IncludedCode(n as u8))),
+        Byte::Orientation => said_quantities::angle(angles::reported_orientation(OrientationCode(
             n as u8,
         ))),
         Byte::UncertaintySpeed =>
-            told_quantities::uncertainty_speed(speeds::reported_uncertainty_speed(UncertaintySpeedCode(
+            said_quantities::uncertainty_speed(speeds::reported_uncertainty_speed(UncertaintySpeedCode(
                 n as u8,
             ))),
         Byte::Confidence =>
-            told_quantities::confidence(confidences::reported_confidence(ConfidenceCode(n as u8))),
+            said_quantities::confidence(confidences::reported_confidence(ConfidenceCode(n as u8))),
     }
 }
 
-pub fn reported_word(field: Word, n: u32) -> Told
+pub fn reported_word(field: Word, n: u32) -> SaidQuantity
     ensures { λ r. ⌜ TellsWord field n r ⌝ }
 {
     if 65535 < n {
         return above_word(field);
     }
     match field {
-        Word::InnerRadius => told_quantities::length(lengths::reported_inner_radius(InnerRadiusCode(
+        Word::InnerRadius => said_quantities::length(lengths::reported_inner_radius(InnerRadiusCode(
             n as u16,
         ))),
-        Word::Bearing => told_quantities::angle(angles::reported_bearing(BearingCode(n as u16))),
+        Word::Bearing => said_quantities::angle(angles::reported_bearing(BearingCode(n as u16))),
         Word::HorizontalSpeed =>
-            told_quantities::speed(speeds::reported_horizontal_speed(HorizontalSpeedCode(
+            said_quantities::speed(speeds::reported_horizontal_speed(HorizontalSpeedCode(
                 n as u16,
             ))),
     }
 }
 
-pub fn reported_signed(field: Signed, sign: bool, n: u32) -> Told
+pub fn reported_signed(field: Signed, sign: bool, n: u32) -> SaidQuantity
     ensures { λ r. ⌜ TellsSigned field sign n r ⌝ }
 {
     match field {
-        Signed::Latitude => told_quantities::coordinate(coordinates::reported_latitude(LatitudeCode(
+        Signed::Latitude => said_quantities::coordinate(coordinates::reported_latitude(LatitudeCode(
             sign,
             n,
         ))),
         Signed::Altitude => {
             if 65535 < n {
-                return Told::Refused(Refusal::OutOfRange);
+                return SaidQuantity::Refused(Refusal::OutOfRange);
             }
-            told_quantities::altitude(lengths::reported_altitude(AltitudeCode(sign, n as u16)))
+            said_quantities::altitude(lengths::reported_altitude(AltitudeCode(sign, n as u16)))
         }
         Signed::VerticalSpeed => {
             if 255 < n {
-                return Told::Refused(Refusal::OutOfRange);
+                return SaidQuantity::Refused(Refusal::OutOfRange);
             }
-            told_quantities::vertical_speed(speeds::reported_vertical_speed(VerticalSpeedCode(
+            said_quantities::vertical_speed(speeds::reported_vertical_speed(VerticalSpeedCode(
                 sign,
                 n as u8,
             )))
@@ -119,34 +119,34 @@ pub fn reported_signed(field: Signed, sign: bool, n: u32) -> Told
     }
 }
 
-pub fn reported_longitude(code: LongitudeCode) -> Told
+pub fn reported_longitude(code: LongitudeCode) -> SaidQuantity
     ensures { λ r. ⌜ TellsQuantity longitude code r ⌝ }
 {
-    told_quantities::coordinate(coordinates::reported_longitude(code))
+    said_quantities::coordinate(coordinates::reported_longitude(code))
 }
 
 // The refusal of a number that 8 bits can't hold.
-fn above_byte(field: Byte) -> Told
+fn above_byte(field: Byte) -> SaidQuantity
     ensures { λ r. ⌜ r ≡ aboveByte field ⌝ }
 {
     match field {
-        Byte::Uncertainty => Told::Refused(Refusal::OutOfRange),
-        Byte::AltitudeUncertainty => Told::Refused(Refusal::OutOfRange),
-        Byte::Offset => Told::Refused(Refusal::AngleCode),
-        Byte::Included => Told::Refused(Refusal::AngleCode),
-        Byte::Orientation => Told::Refused(Refusal::AngleCode),
-        Byte::UncertaintySpeed => Told::Refused(Refusal::OutOfRange),
-        Byte::Confidence => Told::Refused(Refusal::ConfidenceTooLarge),
+        Byte::Uncertainty => SaidQuantity::Refused(Refusal::OutOfRange),
+        Byte::AltitudeUncertainty => SaidQuantity::Refused(Refusal::OutOfRange),
+        Byte::Offset => SaidQuantity::Refused(Refusal::AngleCode),
+        Byte::Included => SaidQuantity::Refused(Refusal::AngleCode),
+        Byte::Orientation => SaidQuantity::Refused(Refusal::AngleCode),
+        Byte::UncertaintySpeed => SaidQuantity::Refused(Refusal::OutOfRange),
+        Byte::Confidence => SaidQuantity::Refused(Refusal::ConfidenceTooLarge),
     }
 }
 
 // The refusal of a number that 16 bits can't hold.
-fn above_word(field: Word) -> Told
+fn above_word(field: Word) -> SaidQuantity
     ensures { λ r. ⌜ r ≡ aboveWord field ⌝ }
 {
     match field {
-        Word::InnerRadius => Told::Refused(Refusal::OutOfRange),
-        Word::Bearing => Told::Refused(Refusal::AngleCode),
-        Word::HorizontalSpeed => Told::Refused(Refusal::OutOfRange),
+        Word::InnerRadius => SaidQuantity::Refused(Refusal::OutOfRange),
+        Word::Bearing => SaidQuantity::Refused(Refusal::AngleCode),
+        Word::HorizontalSpeed => SaidQuantity::Refused(Refusal::OutOfRange),
     }
 }

@@ -1,4 +1,4 @@
--- A VELOCITY'S QUANTITIES IN 6 CELLS.
+-- A VELOCITY'S QUANTITIES IN 6 ELEMENTS.
 use mathlib.Core.List.{List, [], _∷_}
 use lib.IntN.{ℤ, pos}
 use Rattle.layout.specs.Layout.{velocityTypeOf}

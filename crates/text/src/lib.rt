@@ -2,7 +2,7 @@
 mod answer_lines;
 mod marks;
 mod numeral;
-mod printed;
+mod said;
 mod widths;
 
 pub use answer_lines::put_end;
@@ -13,8 +13,9 @@ pub use marks::line_end;
 pub use numeral::Numeral;
 pub use numeral::digits_from;
 pub use numeral::number_in;
-pub use printed::Printed;
-pub use printed::of_told;
+pub use said::SaidLine;
+pub use said::line_of_code;
+pub use said::line_of_quantity;
 pub use widths::Signed32;
 pub use widths::Signed64;
 pub use widths::Size;

@@ -1,4 +1,4 @@
--- Room is made, and the text of what is printed put.
+-- Room is made, and the text of what is said put.
 use mathlib.Core.Path.{ap}
 use Prim.Native.Nat.{ℕ, _+_}
 use Rattle.text.specs.AnswerLines.{lineText}
@@ -12,7 +12,7 @@ returns c =
     let room = c .before .before .before .before .before .make-room .ensures in
     record {
       text = _;
-      answer = λ line l. record { printed = c .before .printed .result; prints = c .before .printed .ensures line l; is = ap (λ (n : ℕ). lineText (n + 1) (c .before .printed .result)) (room .same-count) };
+      answer = λ line l. record { said = c .before .said .result; prints = c .before .said .ensures line l; is = ap (λ (n : ℕ). lineText (n + 1) (c .before .said .result)) (room .same-count) };
       put = put-answer _ (c .before .before .before .before .before .before .before .pre .1 .1 .0) (room .kept) (c .put-line .ensures .puts) (search needs);
       count = ap (λ (n : ℕ). n + 1) (room .same-count);
       sound = search needs;

@@ -28,8 +28,8 @@ returns-2 c =
     let signed-64 = c .before .before .before .before .before .signed-64 in
     let read = c .before .before .before .x in
     let coded-coordinate = c .before .coded-coordinate in
-    let of-told = c .of-told in
-    coordinate-coded (given .field) (coded-coordinate .result) (coordinate-says (given .text .now) (subst (λ (n : Numeral). AsSigned64 n (signed-64 .result)) (number-in .ensures) (signed-64 .ensures)) (read .given .1)) (rw (toZ-ofZ {w = w64} {z = read .given .0 .0} (search needs)) at (coded-coordinate .ensures)) (of-told .ensures)
+    let line-of-code = c .line-of-code in
+    coordinate-coded (given .field) (coded-coordinate .result) (coordinate-says (given .text .now) (subst (λ (n : Numeral). AsSigned64 n (signed-64 .result)) (number-in .ensures) (signed-64 .ensures)) (read .given .1)) (rw (toZ-ofZ {w = w64} {z = read .given .0 .0} (search needs)) at (coded-coordinate .ensures)) (line-of-code .ensures)
 
 pub coordinate-spec : {M : Type 1} → statement M
 coordinate-spec =

@@ -23,8 +23,8 @@ returns-2 c =
     let unsigned-32 = c .before .before .before .before .before .unsigned-32 in
     let read = c .before .before .before .x in
     let coded-unsigned = c .before .coded-unsigned in
-    let of-told = c .of-told in
-    unsigned-coded (given .field) (coded-unsigned .result) (unsigned-says (given .text .now) (number-in .ensures) (read .given .1) (unsigned-32 .ensures)) (coded-unsigned .ensures) (of-told .ensures)
+    let line-of-code = c .line-of-code in
+    unsigned-coded (given .field) (coded-unsigned .result) (unsigned-says (given .text .now) (number-in .ensures) (read .given .1) (unsigned-32 .ensures)) (coded-unsigned .ensures) (line-of-code .ensures)
 
 pub unsigned-spec : {M : Type 1} → statement M
 unsigned-spec =

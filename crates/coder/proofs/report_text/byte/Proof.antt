@@ -16,8 +16,8 @@ returns c =
     let read = c .before .before .before .before .n in
     let capped = c .before .before .capped in
     let reported-byte = c .before .reported-byte in
-    let of-told = c .of-told in
-    byte-reported (given .text .now) (size-code (given .text .now) (number-in .ensures) (size-of .ensures) (read .given .1)) (reported-byte .result) (of-told .ensures) (given .field) (rw (capped .ensures) at (reported-byte .ensures))
+    let line-of-quantity = c .line-of-quantity in
+    byte-reported (given .text .now) (size-code (given .text .now) (number-in .ensures) (size-of .ensures) (read .given .1)) (reported-byte .result) (line-of-quantity .ensures) (given .field) (rw (capped .ensures) at (reported-byte .ensures))
 
 returns-2 : tie.Need-returns-2
 returns-2 c =

@@ -28,8 +28,8 @@ returns-2 c =
     let signed-32 = c .before .before .before .before .before .signed-32 in
     let read = c .before .before .before .x in
     let reported-longitude = c .before .reported-longitude in
-    let of-told = c .of-told in
-    longitude-reported (given .text .now) (signed-says (given .text .now) (number-in .ensures) (read .given .1) (signed-32 .ensures) .means) (rw (toZ-ofZ {w = w32} {z = read .given .0 .0} (search needs)) at (reported-longitude .ensures)) (of-told .ensures)
+    let line-of-quantity = c .line-of-quantity in
+    longitude-reported (given .text .now) (signed-says (given .text .now) (number-in .ensures) (read .given .1) (signed-32 .ensures) .means) (rw (toZ-ofZ {w = w32} {z = read .given .0 .0} (search needs)) at (reported-longitude .ensures)) (line-of-quantity .ensures)
 
 returns-3 : tie.Need-returns-3
 returns-3 c = nothing-reported longitude refl (c .before .before .before .before .args .text .now) (sym (c .before .before .number-in .ensures) ∙ c .enum-told3 .given .1)

@@ -13,8 +13,8 @@ returns-2 c =
     let given = c .before .before .before .before .args in
     let capped = c .before .before .capped in
     let reported-signed = c .before .reported-signed in
-    let of-told = c .of-told in
-    λ first rest m i. signed-reported first rest (omega arith) m i (reported-signed .result) (of-told .ensures) (given .field) (rw (capped .ensures) at (reported-signed .ensures))
+    let line-of-quantity = c .line-of-quantity in
+    λ first rest m i. signed-reported first rest (omega arith) m i (reported-signed .result) (line-of-quantity .ensures) (given .field) (rw (capped .ensures) at (reported-signed .ensures))
 
 pub with-bit-spec : {M : Type 1} → statement M
 with-bit-spec =

@@ -16,8 +16,8 @@ returns c =
     let read = c .before .before .before .before .n in
     let capped = c .before .before .capped in
     let reported-word = c .before .reported-word in
-    let of-told = c .of-told in
-    word-reported (given .text .now) (size-code (given .text .now) (number-in .ensures) (size-of .ensures) (read .given .1)) (reported-word .result) (of-told .ensures) (given .field) (rw (capped .ensures) at (reported-word .ensures))
+    let line-of-quantity = c .line-of-quantity in
+    word-reported (given .text .now) (size-code (given .text .now) (number-in .ensures) (size-of .ensures) (read .given .1)) (reported-word .result) (line-of-quantity .ensures) (given .field) (rw (capped .ensures) at (reported-word .ensures))
 
 returns-2 : tie.Need-returns-2
 returns-2 c =

@@ -1,6 +1,6 @@
 -- `quantity::signed` meets its contract: there are two elements, and the first is a bit.
 use native.Mathlib.Omega.{arith}
-use Rattle.field_arrays.proofs.FieldLaws.{signed-short, no-sign, signed-told}
+use Rattle.field_arrays.proofs.FieldLaws.{signed-short, no-sign, signed-said}
 use borrow.Author.Needs.{needs}
 use Rattle.field_arrays.proofs.quantity.signed.Statement.{statement}
 use Rattle.field_arrays.proofs.quantity.signed.Tie as tie
@@ -15,7 +15,7 @@ returns-3 : tie.Need-returns-3
 returns-3 c =
     let given = c .before .before .before .before .before .before .args in
     let reported-signed = c .reported-signed in
-    signed-told (given .field) (given .code .now) (reported-signed .result) (omega arith) (omega arith) (reported-signed .ensures)
+    signed-said (given .field) (given .code .now) (reported-signed .result) (omega arith) (omega arith) (reported-signed .ensures)
 
 pub signed-spec : {M : Type 1} → statement M
 signed-spec =

@@ -1,10 +1,10 @@
--- The quantities of the elements are put, and how many there are is told.
+-- The quantities of the elements are put, and how many there are is said.
 use mathlib.Core.Path.{refl}
 use Prim.Native.Nat.{_≤_}
 use native.Mathlib.Omega.{arith}
 use lib.ListN.{length}
 use Rattle.code_arrays.specs.Answers.{too-short, long-enough}
-use Rattle.library.proofs.CallLaws.{report-told}
+use Rattle.library.proofs.CallLaws.{report-said}
 use borrow.Author.Needs.{needs}
 use Rattle.library.proofs.shape_calls.report_shape.Statement.{statement}
 use Rattle.library.proofs.shape_calls.report_shape.Tie as tie
@@ -15,7 +15,7 @@ returns c = too-short (omega arith) (c .answer .ensures) refl
 returns-2 : tie.Need-returns-2
 returns-2 c =
     let long : 61 ≤ length (c .before .before .before .before .before .before .args .codes .now) = omega arith in
-    long-enough long (report-told (c .before .before .report .ensures) (c .answer2 .ensures))
+    long-enough long (report-said (c .before .before .report .ensures) (c .answer2 .ensures))
 
 pub report-shape-spec : {M : Type 1} → statement M
 report-shape-spec =

@@ -1,4 +1,4 @@
--- The message of the elements is written, and its length told.
+-- The message of the elements is written, and its length said.
 use mathlib.Core.Path.{refl}
 use Prim.Native.Nat.{_≤_}
 use native.Mathlib.Omega.{arith}
@@ -18,7 +18,7 @@ answer-requires-2 c κs = omega (arith, written-within (c .before .before .write
 returns-2 : tie.Need-returns-2
 returns-2 c =
     let long : 61 ≤ length (c .before .before .before .before .before .before .before .before .args .codes .now) = omega arith in
-    long-enough long (record { written = c .before .before .before .write .result; promise = c .before .before .before .write .ensures; told = c .answer2 .ensures })
+    long-enough long (record { written = c .before .before .before .write .result; promise = c .before .before .before .write .ensures; said = c .answer2 .ensures })
 
 pub write-shape-spec : {M : Type 1} → statement M
 write-shape-spec =

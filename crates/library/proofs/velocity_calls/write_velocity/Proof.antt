@@ -6,7 +6,7 @@ use lib.ListN.{length}
 use Rattle.code_arrays.specs.Answers.{too-short, long-enough}
 use Rattle.ground.proofs.AnswerLaws.{shown, refuted}
 use Rattle.library.proofs.VelocityLaws.{held-velocity-writes, held-velocity-misfit}
-use Rattle.library.proofs.CallLaws.{written-within, misfit-told}
+use Rattle.library.proofs.CallLaws.{written-within, misfit-said}
 use borrow.Author.Needs.{needs}
 use Rattle.library.proofs.velocity_calls.write_velocity.Statement.{statement}
 use Rattle.library.proofs.velocity_calls.write_velocity.Tie as tie
@@ -23,7 +23,7 @@ returns-2 c =
     let if2 = c .before .before .before .before .if2 in
     let else-out-of-range = c .before .else-out-of-range in
     let answer2 = c .answer2 in
-    long-enough (omega arith) (misfit-told (velocity-outcome .result) (held-velocity-misfit (given .codes .now) (refuted (velocity-is-whole .result) (if2 .taken) (velocity-is-whole .ensures)) (velocity-outcome .result) _ (rw (velocity-in .ensures) at (velocity-outcome .ensures))) (rw (else-out-of-range .ensures) at (answer2 .ensures)))
+    long-enough (omega arith) (misfit-said (velocity-outcome .result) (held-velocity-misfit (given .codes .now) (refuted (velocity-is-whole .result) (if2 .taken) (velocity-is-whole .ensures)) (velocity-outcome .result) _ (rw (velocity-in .ensures) at (velocity-outcome .ensures))) (rw (else-out-of-range .ensures) at (answer2 .ensures)))
 
 answer-requires-3 : tie.Need-answer-requires-3
 answer-requires-3 c κs = omega (arith, written-within (c .before .before .write-velocity .ensures))
@@ -37,7 +37,7 @@ returns-3 c =
     let if2 = c .before .before .before .before .before .before .if2 in
     let write-velocity = c .before .before .before .write-velocity in
     let answer3 = c .answer3 in
-    long-enough long (record { written = write-velocity .result; promise = held-velocity-writes (given .codes .now) (shown (velocity-is-whole .result) (if2 .left) (velocity-is-whole .ensures)) _ _ (write-velocity .result) (rw (velocity-in .ensures) at (write-velocity .ensures)); told = answer3 .ensures })
+    long-enough long (record { written = write-velocity .result; promise = held-velocity-writes (given .codes .now) (shown (velocity-is-whole .result) (if2 .left) (velocity-is-whole .ensures)) _ _ (write-velocity .result) (rw (velocity-in .ensures) at (write-velocity .ensures)); said = answer3 .ensures })
 
 pub write-velocity-spec : {M : Type 1} → statement M
 write-velocity-spec =

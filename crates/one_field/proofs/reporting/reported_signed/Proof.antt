@@ -3,7 +3,7 @@ use mathlib.Core.Path.{refl, subst⁻¹}
 use native.Mathlib.Omega.{arith}
 use Rattle.ground.specs.Answers.{done, refused}
 use Rattle.ground.specs.declared.refusals.Refusal.the-variants.{OutOfRange}
-use Rattle.ground.specs.declared.told.Told.the-variants.{Refused}
+use Rattle.ground.specs.declared.said.SaidQuantity.the-variants.{Refused}
 use Rattle.fields.specs.Fields.{latitude, altitude, saidQuantity}
 use Rattle.one_field.specs.Reporting.{TellsSigned}
 use Rattle.one_field.specs.declared.reporting.Signed.{Signed}

@@ -15,15 +15,15 @@ put-byte-requires c κs =
     let number = decimal-within (omega arith) (c .before .before .before .put-decimal .ensures) in
     omega (arith, number .within)
 
-put-printed-requires : tie.Need-put-printed-requires
-put-printed-requires c κs =
+put-said-requires : tie.Need-put-said-requires
+put-said-requires c κs =
     let number = decimal-within (omega arith) (c .before .before .before .before .before .before .before .put-decimal .ensures) in
     omega (arith, number .within, c .before .before .before .put-byte .ensures .place)
 
 put-byte-requires-2 : tie.Need-put-byte-requires-2
 put-byte-requires-2 c κs =
     let number = decimal-within (omega arith) (c .before .before .before .before .before .before .before .before .before .before .before .put-decimal .ensures) in
-    omega (arith, number .within, c .before .before .before .before .before .before .before .put-byte .ensures .place, c .before .before .before .put-printed .ensures .within)
+    omega (arith, number .within, c .before .before .before .before .before .before .before .put-byte .ensures .place, c .before .before .before .put-said .ensures .within)
 
 returns : tie.Need-returns
 unfolding lineText
@@ -31,11 +31,11 @@ returns c =
     let number = decimal-within (omega arith) (c .before .before .before .before .before .before .before .before .before .before .before .before .before .before .put-decimal .ensures) in
     let space = octet-within (c .before .before .before .before .before .before .before .before .before .before .put-byte .ensures) in
     let newline = octet-within (c .before .before .put-byte2 .ensures) in
-    after (after number (after space (c .before .before .before .before .before .before .put-printed .ensures))) newline
+    after (after number (after space (c .before .before .before .before .before .before .put-said .ensures))) newline
 
 pub put-line-spec : {M : Type 1} → statement M
 put-line-spec =
     tie.close
     (tie.spec
-    put-decimal-requires put-byte-requires put-printed-requires put-byte-requires-2 (λ c. search needs)
+    put-decimal-requires put-byte-requires put-said-requires put-byte-requires-2 (λ c. search needs)
     returns)
