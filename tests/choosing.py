@@ -1,9 +1,9 @@
 #!/usr/bin/env python3
-"""Works out, from document 01 alone, what the programs `chooser` and `choices` must print.
+"""Works out, from document 01 alone, what the program `chooser` must print; `trials.py` takes its requests and answers from here.
 
-  tests/choosing.py                  writes stdin and stdout of crates/chooser and crates/choices
-  tests/choosing.py input PROGRAM    the cases, on standard output
-  tests/choosing.py output PROGRAM   what must be printed for the cases on standard input
+  tests/choosing.py          writes stdin and stdout of crates/chooser
+  tests/choosing.py input    the cases, on standard output
+  tests/choosing.py output   what must be printed for the cases on standard input
 
 For each listed type the codes that may stand in each field are found by document 01's sets, in whole numbers. Any choice of
 them is a message that holds the request, so the best of a type takes the least of each; the best of all is the least by
@@ -15,7 +15,7 @@ import re
 import sys
 from pathlib import Path
 
-from messages import SHAPES, octets, put_together, read, shown
+from messages import SHAPES, octets, put_together, read
 
 KINDS = (0, 1, 3, 8, 9)
 ALL = sum(1 << kind for kind in KINDS)
@@ -206,19 +206,6 @@ def chooser_output(text):
     return said + ["end %d" % max(len(lines) - 1, 0)]
 
 
-def choices_output(text):
-    said = []
-    for count, line in enumerate(lines_of(text), 1):
-        listed, room, rest = line.split(b" ", 2)
-        request, room = request_of(rest), int(room)
-        if request is UNREADABLE:
-            said.append("%d -" % count)
-        else:
-            answer, best = choose(request, list_of(listed), room)
-            said.append("%d %d %d %s" % (count, answer, len(best), shown(best + b"\xaa" * (room - len(best)))))
-    return said + ["end %d" % len(lines_of(text))]
-
-
 # ---- the cases
 
 
@@ -341,21 +328,16 @@ def choices_input():
     return b"".join(b"%s %d %s\n" % case for case in cases)
 
 
-INPUTS = {"chooser": chooser_input, "choices": choices_input}
-OUTPUTS = {"chooser": chooser_output, "choices": choices_output}
-
-
 def main(words):
     if not words:
-        crates = Path(__file__).resolve().parent.parent / "crates"
-        for program in INPUTS:
-            text = INPUTS[program]()
-            (crates / program / "stdin").write_bytes(text)
-            (crates / program / "stdout").write_text("".join(line + "\n" for line in OUTPUTS[program](text)))
+        here = Path(__file__).resolve().parent.parent / "crates" / "chooser"
+        text = chooser_input()
+        (here / "stdin").write_bytes(text)
+        (here / "stdout").write_text("".join(line + "\n" for line in chooser_output(text)))
     elif words[0] == "input":
-        sys.stdout.buffer.write(INPUTS[words[1]]())
+        sys.stdout.buffer.write(chooser_input())
     else:
-        sys.stdout.write("".join(line + "\n" for line in OUTPUTS[words[1]](sys.stdin.buffer.read())))
+        sys.stdout.write("".join(line + "\n" for line in chooser_output(sys.stdin.buffer.read())))
 
 
 if __name__ == "__main__":

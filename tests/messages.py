@@ -1,13 +1,8 @@
-#!/usr/bin/env python3
-"""Works out, from document 01 alone, what the program `messages` must print: writes crates/messages/stdin and stdout.
+"""Messages and records from document 01 alone: what reading and writing give, and cases of both for `trials.py`.
 
 Nothing here is taken from the coder: messages are put together and taken apart as strings of bits, octet by octet in
 the order of document 01, "Octet layouts"; the answers follow its "Refusal numbers".
 """
-import random
-import sys
-from pathlib import Path
-
 TYPES = (0, 1, 3, 5, 8, 9, 10)
 START = [("spare", 4), ("south", 1), ("latitude", 23), ("longitude", 24)]
 # after the four bits of the type
@@ -126,31 +121,6 @@ def hexed(message):
     return message.hex() or "-"
 
 
-def shown(message):
-    return " ".join("%02X" % octet for octet in message) or "-"
-
-
-def answered(line):
-    words = line.split(" ")
-    layouts, order = (SHAPES, ORDER) if words[0].endswith("shape") else (VELOCITIES, MOVES)
-    if not words[0].startswith("put-"):
-        answer, record = read(layouts, b"" if words[1] == "-" else bytes.fromhex(words[1]))
-        if answer:
-            return "%d -" % answer
-        kind, fields, points = record
-        every = {name: fields.get(name, 0) for name in order}
-        padded = points + [{name: 0 for name, _ in POINT}] * (15 - len(points))
-        again, message = write(layouts, order, kind, every, len(points), padded, 128)
-        assert again == 0
-        return "0 " + shown(message)
-    room, kind, *numbers = map(int, words[1:])
-    fields = dict(zip(order, numbers))
-    rest = numbers[len(order):]
-    count = rest[0] if order is ORDER else 0
-    answer, message = write(layouts, order, kind, fields, count, [{name: 0 for name, _ in POINT}] * 15, room)
-    return "%d %d %s" % (answer, len(message), shown(message + b"\xaa" * (room - len(message))))
-
-
 # ---- the cases
 
 def put_shape(room, kind, count=0, **fields):
@@ -227,15 +197,3 @@ def cases(pick):
             for room in (3, 4, 5, 6, 7, 9):
                 lines.append(put_velocity(room, kind, *numbers))
     return lines
-
-
-def main():
-    here = Path(__file__).resolve().parent.parent / "crates" / "messages"
-    lines = cases(random.Random(23032))
-    (here / "stdin").write_text("".join(line + "\n" for line in lines))
-    (here / "stdout").write_text("".join("%d %s\n" % (i, answered(line)) for i, line in enumerate(lines, 1)) + "end %d\n" % len(lines))
-    print(len(lines), "lines", file=sys.stderr)
-
-
-if __name__ == "__main__":
-    main()

@@ -1,23 +1,15 @@
-#!/usr/bin/env python3
-"""Works out, from document 01 alone, what the program `travels` must print.
-
-  tests/travels.py           writes crates/travels/stdin and stdout
-  tests/travels.py input     the cases, on standard output
-  tests/travels.py output    what must be printed for the cases on standard input
+"""Quantities from document 01 alone: what coding and reporting a record give, and cases of both for `trials.py`.
 
 A quantity's code is looked for among the codes by document 01's sets, in whole numbers, and must be the only one (`choosing.py`
 has the sets of coordinates, altitudes and radii); messages are put together by `messages.py`, and what a code reports is
 `listing.py`'s. Each reported quantity is coded once more and must give the code that it came from.
 """
 import random
-import re
-import sys
 from fractions import Fraction
-from pathlib import Path
 
 from choosing import HALF_TURN, NINETY, altitude_codes, height_covers, latitude_codes, longitude_codes, near, radius_covers
 from listing import SAID, at_least, height, latitude, longitude, radius, with_sign
-from messages import MOVES, ORDER, SHAPES, TYPES, VELOCITIES, write, shown
+from messages import SHAPES, TYPES, VELOCITIES
 
 SIGNED_64, SIGNED_32, UNSIGNED_32, UNSIGNED_8 = (-2**63, 2**63 - 1), (-2**31, 2**31 - 1), (0, 2**32 - 1), (0, 255)
 MISSING = None
@@ -182,55 +174,8 @@ def reported(name, codes):
 
 # ---- lines
 
-UNREADABLE = object()
-
-
-def number(name, width, field):
-    if field == "-" and name in MAY_BE_MISSING:
-        return MISSING
-    if not re.fullmatch("-?[0-9]+", field) or not width[0] <= int(field) <= width[1]:
-        return UNREADABLE
-    return int(field)
-
-
 def said(quantity):
     return "-" if quantity is MISSING else str(quantity)
-
-
-def message_of(layouts, kind, codes, count, point_codes):
-    order = ORDER if layouts is SHAPES else MOVES
-    nowhere = {"south": 0, "latitude": 0, "longitude": 0}
-    answer, message = write(layouts, order, kind, {name: codes.get(name, 0) for name in order}, count,
-                            point_codes + [nowhere] * (15 - len(point_codes)), 128)
-    assert answer == 0
-    return shown(message)
-
-
-def answered(line):
-    name, *fields = line.split(" ")
-    layout = {"shape": SHAPE_FIELDS, "velocity": VELOCITY_FIELDS}.get(name)
-    if not layout or len(line) > 4096 or len(fields) < len(layout):
-        return "-"
-    rest = fields[len(layout):]
-    if rest and (name == "velocity" or len(rest) > 30 or len(rest) % 2):
-        return "-"
-    given = [number(*of, field) for of, field in zip(layout, fields)]
-    coordinates = [number("latitude", SIGNED_64, field) for field in rest]
-    if UNREADABLE in given or UNREADABLE in coordinates:
-        return "-"
-    given = dict(zip((called for called, _ in layout), given))
-    kind, count = given.pop("type"), given.pop("count", 0)
-    layouts = SHAPES if name == "shape" else VELOCITIES
-    points = list(zip(coordinates[::2], coordinates[1::2]))
-    points += [(0, 0)] * (15 - len(points))
-    answer, codes, point_codes = coded(layouts, kind, given, count, points)
-    if answer:
-        return str(answer)
-    again = {called: reported(called, codes) if called in codes else unused_value(called) for called in given}
-    point_again = [(latitude(code), longitude(code)) for code in point_codes]
-    assert coded(layouts, kind, again, count, point_again) == (0, codes, point_codes)
-    numbers = [kind] + [count] * (name == "shape") + list(again.values()) + [x for point in point_again for x in point]
-    return " ".join(["0", message_of(layouts, kind, codes, count, point_codes)] + [said(x) for x in numbers])
 
 
 # ---- the cases
@@ -468,26 +413,3 @@ def cases():
     pick = random.Random(23032)
     lines = [*field_cases(), *axes_cases(), *polygon_cases(pick), *order_cases(), *velocity_cases(), *random_cases(pick), *unreadable_cases()]
     return "".join(line + "\n" for line in lines)
-
-
-def output(text):
-    lines = text.split("\n")
-    if not lines[-1]:
-        lines.pop()
-    return "".join("%d %s\n" % (i, answered(line)) for i, line in enumerate(lines, 1)) + "end %d\n" % len(lines)
-
-
-def main(words):
-    if not words:
-        here = Path(__file__).resolve().parent.parent / "crates" / "travels"
-        text = cases()
-        (here / "stdin").write_bytes(text.encode())
-        (here / "stdout").write_text(output(text))
-    elif words[0] == "input":
-        sys.stdout.buffer.write(cases().encode())
-    else:
-        sys.stdout.write(output(sys.stdin.buffer.read().decode("latin-1")))
-
-
-if __name__ == "__main__":
-    main(sys.argv[1:])
