@@ -46,7 +46,7 @@ fn read_polygon(codes: &mut [u32], s: &[u8], n: u8) -> Outcome
     let mut outline = layout::blank_shape(Kind::Polygon);
     outline.count = n;
     code_arrays::put_singles(codes, outline);
-    points::put(codes, s, n);
+    points::put_read_points(codes, s, n);
     code_arrays::clear_from(codes, n);
     Outcome::Done
 }

@@ -7,7 +7,7 @@ ghost use Rattle.fetching.specs.Fetching.{latitudesOf, longitudesOf};
 ghost use Rattle.code_arrays.specs.Shapes.{pointElements};
 
 // Puts the elements of the first n points of a message.
-pub fn put(out: &mut [u32], s: &[u8], n: u8)
+pub fn put_read_points(out: &mut [u32], s: &[u8], n: u8)
     requires { ⌜ 61 ≤ length (now out) ⌝ }
     requires { ⌜ n ≤ 15 ⌝ }
     requires { ⌜ 1 + 6 * n ≤ length (now s) ⌝ }

@@ -60,7 +60,7 @@ fn code_formed(codes: &mut [u32], given: &[i64], outline: ShapeQuantities) -> Ou
         return Outcome::Refused(Refusal::BufferTooShort);
     }
     code_arrays::put_singles(codes, shape);
-    points::put(codes, given, outline.count);
+    points::put_coded_points(codes, given, outline.count);
     code_arrays::clear_from(codes, outline.count);
     Outcome::Done
 }

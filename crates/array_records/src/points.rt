@@ -54,7 +54,7 @@ fn none_from(given: &[i64], first: usize) -> bool
 }
 
 // Puts the elements of the first n points, which are in range.
-pub fn put(out: &mut [u32], given: &[i64], n: u8)
+pub fn put_coded_points(out: &mut [u32], given: &[i64], n: u8)
     requires { ⌜ 61 ≤ length (now out) ⌝ }
     requires { ⌜ 44 ≤ length (now given) ⌝ }
     requires { ⌜ n ≤ 15 ⌝ }

@@ -37,7 +37,7 @@ fn report_taken(out: &mut [i64], codes: &[u32], kind: Kind) -> Outcome
     let mut outline = code_arrays::outline_in(codes, kind);
     outline.count = count;
     quantity_arrays::put_singles(out, field_reports::outline(outline));
-    points::put(out, codes, count);
+    points::put_reported_points(out, codes, count);
     quantity_arrays::clear_from(out, count);
     Outcome::Done
 }

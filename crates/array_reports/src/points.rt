@@ -6,7 +6,7 @@ ghost use Rattle.limits.specs.Limits.{UsedWithin};
 ghost use Rattle.array_reports.specs.Reports.{PutsPointQuantities};
 
 // Puts the coordinates of the first n points.
-pub fn put(out: &mut [i64], codes: &[u32], n: u8)
+pub fn put_reported_points(out: &mut [i64], codes: &[u32], n: u8)
     requires { ⌜ 44 ≤ length (now out) ⌝ }
     requires { ⌜ 61 ≤ length (now codes) ⌝ }
     requires { ⌜ n ≤ 15 ⌝ }

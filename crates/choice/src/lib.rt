@@ -40,7 +40,7 @@ fn write_best(out: &mut [u8], codes: Wanted, list: u16) -> Written
     if out.len() < length {
         return refused(Refusal::BufferTooShort);
     }
-    message::put(out, kind, codes);
+    message::store_choice(out, kind, codes);
     Written {
         outcome: Outcome::Done,
         length,

@@ -13,7 +13,7 @@ ghost use Rattle.requests.specs.Codes.{Tame, messageOf, wantedRecord};
 ghost use Rattle.composing.specs.Composing.{rest};
 
 // Stores the message.
-pub fn put(out: &mut [u8], kind: Kind, wanted: Wanted)
+pub fn store_choice(out: &mut [u8], kind: Kind, wanted: Wanted)
     requires { ⌜ TakesPart kind ⌝ }
     requires { ⌜ Tame wanted ⌝ }
     requires { ⌜ lengthOf (shapeRows kind 0) ≤ length (now out) ⌝ }

@@ -14,10 +14,10 @@ use Rattle.streaming.specs.Inputs.{longestLine, mostOctets}
 use Rattle.streaming.specs.Answering.{Ran}
 use Rattle.streaming.specs.declared.output.Run.{Run}
 use Rattle.streaming.proofs.AnswerLaws.{ran-one}
-use Rattle.chooser.specs.Choosing.{SaysList, LineAsks, AnswerTo, unreadable, chosen, ChooserAnswer}
+use Rattle.chooser.specs.Choosing.{LineLists, LineAsks, AnswerTo, unreadable, chosen, ChooserAnswer}
 
 -- the first line says one list
-pub lists-one : {line : List ℕ} {a b : ℕ} → SaysList line a → SaysList line b → a ≡ b
+pub lists-one : {line : List ℕ} {a b : ℕ} → LineLists line a → LineLists line b → a ≡ b
 lists-one {line} p q = ⊎-elim (λ h. p .too-long h ∙ sym (q .too-long h)) (λ h. list-one (p .says h) (q .says h)) (split longestLine (length line))
 
 line-asks-one : {line : List ℕ} {a b : Asked} → LineAsks line a → LineAsks line b → a ≡ b

@@ -18,7 +18,7 @@ use Rattle.streaming.specs.declared.input.Input.{Input}
 use Rattle.streaming.specs.declared.output.Run.{Run}
 
 -- the receiver's list in a line; one that is too long to be kept is the empty list
-pub record SaysList (line : List ℕ) (list : ℕ) : Type 0 where
+pub record LineLists (line : List ℕ) (list : ℕ) : Type 0 where
   pub says : length line ≤ longestLine → ListIn line list
   pub too-long : longestLine < length line → list ≡ 0
 
@@ -41,7 +41,7 @@ pub record ChooserAnswer (list n : ℕ) (line text : List ℕ) : Type 0 where
 -- the first line is the list; where there is none, no line is answered
 pub data Heads (list : ℕ) : List (List ℕ) → ℕ → Type 0 where
   nothing : Heads list [] 0
-  listed : {line : List ℕ} {answered : ℕ} → SaysList line list → Heads list (line ∷ []) answered
+  listed : {line : List ℕ} {answered : ℕ} → LineLists line list → Heads list (line ∷ []) answered
 
 -- WHAT THE PROGRAM DOES: it takes the list from the first line, and answers every other
 pub record ChoosesAll (start block out : List ℕ) (r : Run) : Type 0 where

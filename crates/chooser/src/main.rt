@@ -14,7 +14,7 @@ ghost use lib.ListN.{length};
 ghost use Rattle.streaming.specs.Inputs.{SoundInput, Line, mostOctets};
 ghost use Rattle.streaming.specs.Outputs.{SoundOutput};
 ghost use Rattle.streaming.specs.Answering.{AnswerPut};
-ghost use Rattle.chooser.specs.Choosing.{SaysList, LineAsks, ChooserAnswer, ChoosesAll, AnswersRest, StoppedChoosing, PutsChosen};
+ghost use Rattle.chooser.specs.Choosing.{LineLists, LineAsks, ChooserAnswer, ChoosesAll, AnswersRest, StoppedChoosing, PutsChosen};
 
 // No answer takes more octets.
 const LONGEST_ANSWER: usize = 65;
@@ -120,7 +120,7 @@ fn put_chosen(out: &mut [u8; 65536], at: usize, number: u64, asked: Asked, list:
 fn list_held(block: &[u8], input: Input) -> u16
     requires { ⌜ length (now block) ≡ 65536 ⌝ }
     requires { ⌜ SoundInput input ⌝ }
-    ensures { λ r. ⌜ ((line : List ℕ) → Line (now (block .entry)) input line → SaysList line r) ⌝ }
+    ensures { λ r. ⌜ ((line : List ℕ) → Line (now (block .entry)) input line → LineLists line r) ⌝ }
 {
     if input.long {
         return 0;

@@ -42,7 +42,7 @@ fn write_taken(out: &mut [u8], codes: &[u32], kind: Kind) -> Written
             length: 0,
         };
     }
-    message::put(out, codes, kind);
+    message::store_shape(out, codes, kind);
     Written {
         outcome: Outcome::Done,
         length,

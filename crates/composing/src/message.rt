@@ -11,7 +11,7 @@ ghost use Rattle.code_arrays.specs.Shapes.{arrayKind, arrayRows, valueIn, recor
 ghost use Rattle.composing.specs.Composing.{ShapeStorable, stored, restOf, RestFits};
 
 // Stores the message.
-pub fn put(out: &mut [u8], codes: &[u32], kind: Kind)
+pub fn store_shape(out: &mut [u8], codes: &[u32], kind: Kind)
     requires { ⌜ 61 ≤ length (now codes) ⌝ }
     requires { ⌜ kind ≡ arrayKind (now codes) ⌝ }
     requires { ⌜ InFields (arrayRows (now codes)) (valueIn (now codes)) ⌝ }
@@ -21,7 +21,7 @@ pub fn put(out: &mut [u8], codes: &[u32], kind: Kind)
     let first = layout::first_octet(kind);
     if let Kind::Polygon = kind {
         out[0] = first + codes[1] as u8;
-        points::put(out, codes);
+        points::store_points(out, codes);
         return;
     }
     let outline = code_arrays::outline_in(codes, kind);

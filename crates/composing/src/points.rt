@@ -10,7 +10,7 @@ ghost use Rattle.limits.specs.Limits.{UsedWithin};
 ghost use Rattle.composing.specs.Composing.{positions};
 
 // Stores six octets for each point, after the first octet.
-pub fn put(out: &mut [u8], codes: &[u32])
+pub fn store_points(out: &mut [u8], codes: &[u32])
     requires { ⌜ 61 ≤ length (now codes) ⌝ }
     requires { ⌜ valueIn (now codes) count ≤ 15 ⌝ }
     requires { ⌜ 1 + 6 * valueIn (now codes) count ≤ length (now out) ⌝ }

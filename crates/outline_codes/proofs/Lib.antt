@@ -1,3 +1,4 @@
+pub mod OnePoints
 pub mod PointLaws
 pub mod RangeLaws
 pub mod TestLaws

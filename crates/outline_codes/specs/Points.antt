@@ -4,7 +4,7 @@ use mathlib.Core.Bool.{Bool, true, false}
 use mathlib.Core.List.{List}
 use Prim.Native.Nat.{ℕ}
 use lib.Dec.{ltb}
-use lib.ListN.{length, getD}
+use lib.ListN.{length, getD, replicate}
 use Rattle.ground.specs.Answers.{done, refused}
 use Rattle.ground.specs.declared.code.LatitudeCode.{LatitudeCode}
 use Rattle.ground.specs.declared.code.LongitudeCode.{LongitudeCode}
@@ -43,6 +43,15 @@ pub record PointsCodes (xs ys : List Nanodegrees) (n : ℕ) (r : Points) : Type 
   pub all-longitudes : length (r .longitudes) ≡ 15
   pub each : (i : ℕ) → PointCodes (ltb i n) (getD xs i zeroDegrees) (getD ys i zeroDegrees) (getD (r .latitudes) i zeroLatitude) (getD (r .longitudes) i zeroLongitude)
 
+-- fifteen points whose codes are zero
+abbrev pub blankPoints : Bool → Points
+blankPoints b = record { «in_range» = b; latitudes = replicate 15 zeroLatitude; longitudes = replicate 15 zeroLongitude }
+
+-- a point is not kept, and every code is zero
+pub record PointsRefused (xs ys : List Nanodegrees) (n : ℕ) (r : Points) : Type 0 where
+  pub not-kept : PointsKept xs ys n → ⊥
+  pub blank : r ≡ blankPoints false
+
 pub record CodesPoints (xs ys : List Nanodegrees) (n : ℕ) (r : Points) : Type 0 where
   pub coded : r .«in_range» ≡ true → PointsCodes xs ys n r
-  pub out : r .«in_range» ≡ false → PointsKept xs ys n → ⊥
+  pub out : r .«in_range» ≡ false → PointsRefused xs ys n r

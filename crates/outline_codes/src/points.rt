@@ -4,7 +4,8 @@ use coordinates::LongitudeCoded;
 use ground::LatitudeCode;
 use ground::LongitudeCode;
 use ground::Nanodegrees;
-ghost use Rattle.outline_codes.specs.Points.{CodesPoint, CodesPoints};
+ghost use mathlib.Core.Path.{_≡_};
+ghost use Rattle.outline_codes.specs.Points.{CodesPoint, CodesPoints, blankPoints};
 
 pub struct Points {
     pub in_range: bool,
@@ -17,15 +18,11 @@ pub enum PointCoded {
     OutOfRange,
 }
 
-// The codes of the first n points, if those after them are zero.
+// The codes of the first n points, if those after them are zero. Where one is refused, every code is zero.
 pub fn code_points(latitudes: [Nanodegrees; 15], longitudes: [Nanodegrees; 15], n: u8) -> Points
     ensures { λ r. ⌜ CodesPoints latitudes longitudes n r ⌝ }
 {
-    let mut points = Points {
-        in_range: true,
-        latitudes: [LatitudeCode(false, 0); 15],
-        longitudes: [LongitudeCode(0); 15],
-    };
+    let mut points = blank_points(true);
     let end = n as usize;
     let mut i = 0;
     while i < 15 {
@@ -36,8 +33,7 @@ pub fn code_points(latitudes: [Nanodegrees; 15], longitudes: [Nanodegrees; 15], 
             latitude,
             longitude,
         ) else {
-            points.in_range = false;
-            return points;
+            return blank_points(false);
         };
         points.latitudes[i] = latitude_code;
         points.longitudes[i] = longitude_code;
@@ -65,4 +61,15 @@ pub fn code_point(used: bool, latitude: Nanodegrees, longitude: Nanodegrees) -> 
         return PointCoded::OutOfRange;
     }
     PointCoded::Codes(LatitudeCode(false, 0), LongitudeCode(0))
+}
+
+// Fifteen points whose codes are zero.
+fn blank_points(in_range: bool) -> Points
+    ensures { λ r. ⌜ r ≡ blankPoints «in_range» ⌝ }
+{
+    Points {
+        in_range,
+        latitudes: [LatitudeCode(false, 0); 15],
+        longitudes: [LongitudeCode(0); 15],
+    }
 }

@@ -57,7 +57,7 @@ pub fn write_velocity(out: &mut [u8], velocity: Velocity) -> Written
     let outcome = answers::of_record(velocity, room);
     let length = answers::written(outcome, kind);
     if 0 < length {
-        velocity_octets::put(out, velocity);
+        velocity_octets::store_velocity(out, velocity);
     }
     Written { outcome, length }
 }

@@ -2,5 +2,5 @@
 mod message;
 mod record;
 
-pub use message::put;
+pub use message::store_velocity;
 pub use record::velocity;

@@ -10,7 +10,7 @@ ghost use Rattle.octets.specs.Codes.{bitOf};
 ghost use Rattle.velocity_octets.specs.Carrying.{VelocityStorable, Stored, firstNumber, front};
 
 // Stores the message.
-pub fn put(out: &mut [u8], velocity: Velocity)
+pub fn store_velocity(out: &mut [u8], velocity: Velocity)
     requires { ⌜ VelocityStorable velocity (length (now out)) ⌝ }
     ensures { λ _. ⌜ Stored velocity (now (out .entry)) (now (out .exit)) ⌝ }
 {

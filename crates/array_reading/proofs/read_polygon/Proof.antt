@@ -15,8 +15,8 @@ use Rattle.array_reading.proofs.read_polygon.Tie as tie
 returns : tie.Need-returns
 returns c = short-into _ (polygon-read (c .before .before .before .pre .0) (c .before .before .before .pre .1)) (omega arith)
 
-put-requires : tie.Need-put-requires
-put-requires c κs = (search needs, (few-points (c .before .before .before .before .before .before .before .before .before .pre .0) (c .before .before .before .before .before .before .before .before .before .pre .1), long-enough (c .before .before .before .before .before .before .before .before .before .pre .0) (c .before .before .before .before .before .before .before .before .before .pre .1)))
+put-read-points-requires : tie.Need-put-read-points-requires
+put-read-points-requires c κs = (search needs, (few-points (c .before .before .before .before .before .before .before .before .before .pre .0) (c .before .before .before .before .before .before .before .before .before .pre .1), long-enough (c .before .before .before .before .before .before .before .before .before .pre .0) (c .before .before .before .before .before .before .before .before .before .pre .1)))
 
 clear-from-requires : tie.Need-clear-from-requires
 clear-from-requires c κs = (search needs, few-points (c .before .before .before .before .before .before .before .before .before .before .before .before .before .pre .0) (c .before .before .before .before .before .before .before .before .before .before .before .before .before .pre .1))
@@ -29,11 +29,11 @@ returns-2 c =
     put-into _ (polygon-read (c .before .before .before .before .before .before .before .before .before .before .before .before .before .before .before .before .pre .0) (c .before .before .before .before .before .before .before .before .before .before .before .before .before .before .before .before .pre .1)) n refl (omega arith)
     (c .before .before .clear-from .ensures
     ∙ ap (λ (l : List ℕ). sets l (16 + 3 * n) (replicate (45 - 3 * n) 0))
-    (c .before .before .before .before .before .before .put .ensures ∙ ap (λ (l : List ℕ). sets l 16 (pointElements (latitudesOf n s) (longitudesOf n s) n)) (rw (c .before .before .before .before .before .before .before .before .before .before .before .before .blank-shape .ensures) at (c .before .before .before .before .before .before .before .before .before .before .put-singles .ensures))))
+    (c .before .before .before .before .before .before .put-read-points .ensures ∙ ap (λ (l : List ℕ). sets l 16 (pointElements (latitudesOf n s) (longitudesOf n s) n)) (rw (c .before .before .before .before .before .before .before .before .before .before .before .before .blank-shape .ensures) at (c .before .before .before .before .before .before .before .before .before .before .put-singles .ensures))))
 
 pub read-polygon-spec : {M : Type 1} → statement M
 read-polygon-spec =
     tie.close
     (tie.spec
-    returns (λ c κs. search needs) (λ c κs. search needs) put-requires clear-from-requires (λ c. search needs)
+    returns (λ c κs. search needs) (λ c κs. search needs) put-read-points-requires clear-from-requires (λ c. search needs)
     returns-2)

@@ -75,14 +75,14 @@ returns-5 c = large-into (now (c .before .before .before .before .before .before
 returns-6 : tie.Need-returns-6
 returns-6 c = short-into (now (c .before .before .before .before .before .before .before .before .before .before .before .before .before .before .before .before .before .before .args .given)) (c .before .before .before .before .before .before .before .before .before .before .before .before .before .before .before .before .before .before .pre .1 .1 .0) (c .before .before .before .before .before .before .before .before .before .before .before .before .before .before .before .before .before .before .pre .1 .1 .1) _ (coded (c .before) (points (c .before .before .before .before .before .before) .codes)) (omega arith)
 
-put-requires : tie.Need-put-requires
-put-requires c κs = (search needs, (c .before .before .before .before .before .before .before .before .before .before .before .before .before .before .before .before .before .before .before .before .before .before .before .pre .0, (rw (c .before .before .before .before .before .before .before .before .before .before .before .before .before .before .before .before .before .before .before .before .before .before .before .pre .1 .0) (few (c .before .before .before .before .before .before .before .before .before .before .before .before .before .before .before .before .before .before .before)), rw (c .before .before .before .before .before .before .before .before .before .before .before .before .before .before .before .before .before .before .before .before .before .before .before .pre .1 .0) (codes-used (points (c .before .before .before .before .before .before .before .before .before .before .before) .codes)))))
+put-coded-points-requires : tie.Need-put-coded-points-requires
+put-coded-points-requires c κs = (search needs, (c .before .before .before .before .before .before .before .before .before .before .before .before .before .before .before .before .before .before .before .before .before .before .before .pre .0, (rw (c .before .before .before .before .before .before .before .before .before .before .before .before .before .before .before .before .before .before .before .before .before .before .before .pre .1 .0) (few (c .before .before .before .before .before .before .before .before .before .before .before .before .before .before .before .before .before .before .before)), rw (c .before .before .before .before .before .before .before .before .before .before .before .before .before .before .before .before .before .before .before .before .before .before .before .pre .1 .0) (codes-used (points (c .before .before .before .before .before .before .before .before .before .before .before) .codes)))))
 
 returns-7 : tie.Need-returns-7
 returns-7 c =
     let n = quantitiesIn (now (c .before .before .before .before .before .before .before .before .before .before .before .before .before .before .before .before .before .before .before .before .before .before .before .before .before .before .before .before .before .before .args .given)) .count in
     let m = c .before .before .before .before .before .before .before .before .before .before .before .before .before .before .before .before .before .before .before .before .before .before .before .before .before .before .before .before .before .before .args .outline .count in
-    let put = rw (c .before .before .before .before .before .before .before .before .before .before .before .before .before .before .before .before .before .before .before .before .before .before .before .before .before .before .before .before .before .before .pre .1 .0) at (c .before .before .before .before .before .before .put .ensures) in
+    let put = rw (c .before .before .before .before .before .before .before .before .before .before .before .before .before .before .before .before .before .before .before .before .before .before .before .before .before .before .before .before .before .before .pre .1 .0) at (c .before .before .before .before .before .before .put-coded-points .ensures) in
     let u = put .codes in
     put-into (now (c .before .before .before .before .before .before .before .before .before .before .before .before .before .before .before .before .before .before .before .before .before .before .before .before .before .before .before .before .before .before .args .given)) (c .before .before .before .before .before .before .before .before .before .before .before .before .before .before .before .before .before .before .before .before .before .before .before .before .before .before .before .before .before .before .pre .1 .1 .0) (c .before .before .before .before .before .before .before .before .before .before .before .before .before .before .before .before .before .before .before .before .before .before .before .before .before .before .before .before .before .before .pre .1 .1 .1) (withPoints (c .before .before .before .before .before .before .before .before .before .before .before .before .before .outlined .result) (pointsOf u)) (coded (c .before .before .before .before .before .before .before .before .before .before .before .before .before) u) n m (ap (λ (o : ShapeQuantities). o .count) (c .before .before .before .before .before .before .before .before .before .before .before .before .before .before .before .before .before .before .before .before .before .before .before .before .before .before .before .before .before .before .pre .1 .0)) (u .ended) (omega arith)
     (c .before .before .clear-from .ensures
@@ -94,5 +94,5 @@ code-formed-spec =
     (tie.spec
     (λ c κs. search needs) (λ c κs. search needs) returns returns-2 (λ c κs. search needs) (λ c. search needs)
     enum-told returns-3 in-range-requires returns-4 (λ c κs. search needs) (λ c. search needs)
-    (λ c. search needs) returns-5 (λ c κs. search needs) returns-6 (λ c κs. search needs) put-requires
+    (λ c. search needs) returns-5 (λ c κs. search needs) returns-6 (λ c κs. search needs) put-coded-points-requires
     (λ c κs. search needs) (λ c. search needs) returns-7)

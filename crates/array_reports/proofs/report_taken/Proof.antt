@@ -26,8 +26,8 @@ outline-requires c κs =
     let start = c .before .before .before .before .before in
     held (start .args .codes .now) (start .pre .1 .1) (c .before .outline-in .ensures)
 
-put-requires : tie.Need-put-requires
-put-requires c κs =
+put-reported-points-requires : tie.Need-put-reported-points-requires
+put-reported-points-requires c κs =
     let start = c .before .before .before .before .before .before .before .before .before in
     (search needs, (start .pre .0, (few-points (start .args .codes .now) (start .pre .1 .1), points-within (start .args .codes .now) (start .pre .1 .1) _)))
 
@@ -40,7 +40,7 @@ returns-2 : tie.Need-returns-2
 returns-2 c =
     let start = c .before .before .before .before .before .before .before .before .before .before .before .before .before .before in
     report-put (start .args .codes .now) (start .pre .1 .1) (c .before .before .before .before .before .before .before .before .before .before .outline-in .ensures) (c .before .before .before .before .before .before .before .before .outline .result) (c .before .before .before .before .before .before .before .before .outline .ensures) (start .args .out .now) (search needs)
-    (rw (c .before .before .before .before .before .before .before .put-singles .ensures) at (c .before .before .before .before .put .ensures))
+    (rw (c .before .before .before .before .before .before .before .put-singles .ensures) at (c .before .before .before .before .put-reported-points .ensures))
     (c .before .clear-from .ensures)
 
 pub report-taken-spec : {M : Type 1} → statement M
@@ -48,4 +48,4 @@ report-taken-spec =
     tie.close
     (tie.spec
     returns (λ c. search needs) cast-count outline-in-requires outline-requires (λ c κs. search needs)
-    put-requires clear-from-requires (λ c. search needs) returns-2)
+    put-reported-points-requires clear-from-requires (λ c. search needs) returns-2)

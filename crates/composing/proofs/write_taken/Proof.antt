@@ -23,8 +23,8 @@ returns : tie.Need-returns
 returns c =
     record { answer = no-room _ (c .before .before .before .before .before .pre .1 .1) (omega (arith, c .if1 .taken, long (c .before))); written = refl; buffer = refl }
 
-put-requires : tie.Need-put-requires
-put-requires c κs =
+store-shape-requires : tie.Need-store-shape-requires
+store-shape-requires c κs =
     let elements = now (c .before .before .before .before .before .before .args .codes) in
     let s = taken (c .before .before .before .before .before .before .pre .1 .1) in
     (search needs, (search needs, (s .fields, storable elements (s .fields) _ (omega (arith, c .before .if1 .left, long (c .before .before))) (s .listed) (s .counted))))
@@ -37,12 +37,12 @@ returns-2 c =
     record {
       answer = with-room _ (c .before .before .before .before .before .before .before .before .before .pre .1 .1) (omega (arith, c .before .before .before .before .if1 .left));
       written = e;
-      buffer = c .before .before .put .ensures ∙ message-stored elements (s .fields) (s .listed) (now (c .before .before .before .before .before .before .before .before .before .args .out));
+      buffer = c .before .before .store-shape .ensures ∙ message-stored elements (s .fields) (s .listed) (now (c .before .before .before .before .before .before .before .before .before .args .out));
     }
 
 pub write-taken-spec : {M : Type 1} → statement M
 write-taken-spec =
     tie.close
     (tie.spec
-    (λ c. search needs) cast-message-length (λ c κs. search needs) returns put-requires (λ c. search needs)
+    (λ c. search needs) cast-message-length (λ c κs. search needs) returns store-shape-requires (λ c. search needs)
     returns-2)

@@ -9,15 +9,15 @@ use borrow.Author.Needs.{needs}
 use Rattle.velocities.proofs.write_velocity.Statement.{statement}
 use Rattle.velocities.proofs.write_velocity.Tie as tie
 
-put-requires : tie.Need-put-requires
-put-requires c κs =
+store-velocity-requires : tie.Need-store-velocity-requires
+store-velocity-requires c κs =
     let a = c .before .before .before .before .before .args in
     storable (a .velocity) _ (done-answer (velocityRowsOf (a .velocity)) (velocityValueOf (a .velocity)) (now (a .out)) _ (c .before .before .before .of-record .result) (c .before .before .before .of-record .ensures) (c .before .before .written .ensures) (omega (arith, c .before .if1 .taken)))
 
 returns : tie.Need-returns
 returns c =
     let a = c .before .before .before .before .before .before .before .before .args in
-    done-writes (velocityRowsOf (a .velocity)) (velocityValueOf (a .velocity)) (now (a .out)) _ _ _ (c .before .before .before .before .before .before .of-record .ensures) (c .before .before .before .before .before .written .ensures) (omega (arith, c .before .before .before .before .if1 .taken)) (c .before .before .put .ensures)
+    done-writes (velocityRowsOf (a .velocity)) (velocityValueOf (a .velocity)) (now (a .out)) _ _ _ (c .before .before .before .before .before .before .of-record .ensures) (c .before .before .before .before .before .written .ensures) (omega (arith, c .before .before .before .before .if1 .taken)) (c .before .before .store-velocity .ensures)
 
 returns-2 : tie.Need-returns-2
 returns-2 c =
@@ -28,4 +28,4 @@ pub write-velocity-spec : {M : Type 1} → statement M
 write-velocity-spec =
     tie.close
     (tie.spec
-    (λ c κs. search needs) (λ c κs. search needs) put-requires (λ c. search needs) returns returns-2)
+    (λ c κs. search needs) (λ c κs. search needs) store-velocity-requires (λ c. search needs) returns returns-2)

@@ -17,7 +17,7 @@ abbrev μ-loop : tie.MeasureT-loop
 μ-loop n latitudes longitudes points₀ end i₀ points i = 15 - i
 
 loop-holds : tie.Need-loop-holds Inv-loop μ-loop
-loop-holds c = (omega arith, refl, refl, refl, λ k h. absurd (omega arith))
+loop-holds c = rw (c .blank-points .ensures) (omega arith, refl, refl, refl, λ k h. absurd (omega arith))
 
 code-point-requires : tie.Need-code-point-requires Inv-loop μ-loop
 code-point-requires c κs = tt
@@ -29,14 +29,17 @@ enum-told : tie.Need-enum-told Inv-loop μ-loop
 enum-told c = c .match .keys2
 
 returns : tie.Need-returns Inv-loop μ-loop
-returns c = record {
+returns c = rw (c .blank-points2 .ensures) (record {
   coded = λ e. never e refl;
-  out = λ _ k. (rw (c .enum-told .given .1) at (c .before .before .code-point .ensures)) (k (c .before .before .before .before .before .before .loop .i));
-}
+  out = λ _. record {
+    not-kept = λ k. (rw (c .before .enum-told .given .1) at (c .before .before .before .code-point .ensures)) (k (c .before .before .before .before .before .before .before .loop .i));
+    blank = refl;
+  };
+})
 
 loop-again : tie.Need-loop-again Inv-loop μ-loop
 loop-again c =
-    let a = c .before .before .before .before .before .before .before .before .args in
+    let a = c .before .before .before .before .before .before .before .before .before .args in
     let l = c .before .before .before .before .before .before .before .loop in
     let p = c .before .latitude-code .given in (
       omega arith,
@@ -48,7 +51,7 @@ loop-again c =
 
 returns-2 : tie.Need-returns-2 Inv-loop μ-loop
 returns-2 c =
-    let a = c .before .before .args in
+    let a = c .before .before .before .args in
     let l = c .before .loop in
     record {
       coded = λ _. record {
@@ -63,6 +66,7 @@ pub code-points-spec : {M : Type 1} → statement M
 code-points-spec =
     tie.close
     (tie.spec
-    Inv-loop μ-loop loop-holds (λ c. search needs) (λ c. search needs) (λ c. search needs) (λ c. search needs)
-    code-point-requires enum-known-latitude-code enum-told returns (λ c. search needs) (λ c. search needs)
-    (λ c. search needs) (λ c. search needs) (λ c. search needs) (λ c. search needs) loop-again returns-2)
+    Inv-loop μ-loop (λ c κs. search needs) loop-holds (λ c. search needs) (λ c. search needs)
+    (λ c. search needs) (λ c. search needs) code-point-requires enum-known-latitude-code enum-told
+    (λ c κs. search needs) returns (λ c. search needs) (λ c. search needs) (λ c. search needs)
+    (λ c. search needs) (λ c. search needs) (λ c. search needs) loop-again returns-2)

@@ -30,7 +30,7 @@ returns-3 c =
 returns-4 : tie.Need-returns-4
 returns-4 c =
     let q = c .before .before .before .before .before .before .before .before .before .before .before .before .before .before .before .args .quantities in
-    out-of-range q (c .refused4 .result) (c .before .before .before .before .before .before .before .before .before .before .before .before .before .before .before .pre) (c .refused4 .ensures) (λ r. c .before .before .before .code-points .ensures .out (not-true _ (c .before .if3 .taken)) (points-kept q r))
+    out-of-range q (c .refused4 .result) (c .before .before .before .before .before .before .before .before .before .before .before .before .before .before .before .pre) (c .refused4 .ensures) (λ r. c .before .before .before .code-points .ensures .out (not-true _ (c .before .if3 .taken)) .not-kept (points-kept q r))
 
 returns-5 : tie.Need-returns-5
 returns-5 c =

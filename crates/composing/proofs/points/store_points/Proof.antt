@@ -13,8 +13,8 @@ use Rattle.code_arrays.proofs.ArrayLaws.{same-element}
 use Rattle.composing.specs.Composing.{positions}
 use Rattle.composing.proofs.ElementRecords.{point-size, point-octets}
 use Rattle.composing.proofs.StoreLaws.{more}
-use Rattle.composing.proofs.points.put.Statement.{statement}
-use Rattle.composing.proofs.points.put.Tie as tie
+use Rattle.composing.proofs.points.store_points.Statement.{statement}
+use Rattle.composing.proofs.points.store_points.Tie as tie
 
 abbrev Inv-loop : tie.InvT-loop
 Inv-loop out₀ codes end i₀ out i =
@@ -55,8 +55,8 @@ returns c =
     let e : c .before .loop .i ≡ valueIn (now (c .before .before .before .before .before .args .codes)) count = omega arith in
     rw e at (c .before .loop .inv .2)
 
-pub put-spec : {M : Type 1} → statement M
-put-spec =
+pub store-points-spec : {M : Type 1} → statement M
+store-points-spec =
     tie.close
     (tie.spec
     Inv-loop μ-loop (λ c. search needs) cast-end loop-holds (λ c. search needs) (λ c. search needs)

@@ -6,8 +6,8 @@ use denote.Ref.{now}
 use Rattle.layout.specs.declared.velocity.VelocityKind.the-variants.{Horizontal, HorizontalVertical, HorizontalUncertain, HorizontalVerticalUncertain}
 use Rattle.velocity_octets.proofs.SizeLaws.{type-lt}
 use Rattle.velocity_octets.proofs.StoreLaws.{bearing-fits, own-room, nothing-stored, horizontal-stored, vertical-stored, uncertain-stored, all-stored}
-use Rattle.velocity_octets.proofs.message.put.Statement.{statement}
-use Rattle.velocity_octets.proofs.message.put.Tie as tie
+use Rattle.velocity_octets.proofs.message.store_velocity.Statement.{statement}
+use Rattle.velocity_octets.proofs.message.store_velocity.Tie as tie
 
 first-word-requires : tie.Need-first-word-requires
 first-word-requires c κs = (omega (arith, c .velocity-type-number .ensures, type-lt (c .before .before .args .velocity .kind)), bearing-fits _ _ (c .before .before .pre))
@@ -54,8 +54,8 @@ returns-5 c =
     let a = b .before .before .before in
     all-stored _ (now (a .args .out)) _ (a .pre) _ _ (b .before .velocity-type-number .ensures) (b .first-word .ensures) (c .before .before .before .before .enum-told5 .given .1) (c .before .before .put-seven .ensures)
 
-pub put-spec : {M : Type 1} → statement M
-put-spec =
+pub store-velocity-spec : {M : Type 1} → statement M
+store-velocity-spec =
     tie.close
     (tie.spec
     (λ c κs. search needs) (λ c. search needs) first-word-requires enum-told (λ c. search needs)

@@ -7,8 +7,8 @@ use lib.ListN.{length, length-set}
 use Rattle.quantity_arrays.proofs.ArrayLaws.{stored}
 use Rattle.array_reports.specs.Reports.{PutsPointQuantities}
 use Rattle.array_reports.proofs.PointLaws.{latitude-held, latitude-is, longitude-held, longitude-is, none-put, one-put}
-use Rattle.array_reports.proofs.points.put.Statement.{statement}
-use Rattle.array_reports.proofs.points.put.Tie as tie
+use Rattle.array_reports.proofs.points.put_reported_points.Statement.{statement}
+use Rattle.array_reports.proofs.points.put_reported_points.Tie as tie
 
 abbrev Inv-loop : tie.InvT-loop
 Inv-loop out₀ codes n end i₀ out i = (i ≤ n) × PutsPointQuantities codes i out₀ out × (length out ≡ length out₀)
@@ -51,8 +51,8 @@ returns c =
     let e : c .before .loop .i ≡ c .before .before .before .args .n = search needs in
     rw e at (c .before .loop .inv .1)
 
-pub put-spec : {M : Type 1} → statement M
-put-spec =
+pub put-reported-points-spec : {M : Type 1} → statement M
+put-reported-points-spec =
     tie.close
     (tie.spec
     Inv-loop μ-loop loop-holds (λ c. search needs) (λ c. search needs) (λ c. search needs) (λ c. search needs)

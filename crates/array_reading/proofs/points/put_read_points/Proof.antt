@@ -11,8 +11,8 @@ use Rattle.fetching.specs.Fetching.{latitudesOf, longitudesOf}
 use Rattle.code_arrays.specs.Shapes.{pointElements}
 use Rattle.code_arrays.proofs.PointLaws.{more}
 use Rattle.array_reading.proofs.IntoLaws.{point-at}
-use Rattle.array_reading.proofs.points.put.Statement.{statement}
-use Rattle.array_reading.proofs.points.put.Tie as tie
+use Rattle.array_reading.proofs.points.put_read_points.Statement.{statement}
+use Rattle.array_reading.proofs.points.put_read_points.Tie as tie
 
 abbrev Inv-loop : tie.InvT-loop
 Inv-loop out₀ s n end i₀ out i = (i ≤ n) × (out ≡ sets out₀ 16 (pointElements (latitudesOf n s) (longitudesOf n s) i)) × (length out ≡ length out₀)
@@ -40,8 +40,8 @@ returns c =
     let e : c .before .loop .i ≡ c .before .before .before .before .args .n = omega arith in
     rw e at (c .before .loop .inv .1)
 
-pub put-spec : {M : Type 1} → statement M
-put-spec =
+pub put-read-points-spec : {M : Type 1} → statement M
+put-read-points-spec =
     tie.close
     (tie.spec
     Inv-loop μ-loop loop-holds (λ c. search needs) (λ c. search needs) (λ c κs. search needs)

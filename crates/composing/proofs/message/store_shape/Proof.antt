@@ -15,8 +15,8 @@ use Rattle.code_arrays.specs.Shapes.{arrayKind, recordIn}
 use Rattle.composing.specs.Composing.{restOf}
 use Rattle.composing.proofs.StoreLaws.{start-within, start-room, polygon-room}
 use Rattle.composing.proofs.ElementStores.{count-small, used-within, rest-fits, parts-stored, points-stored}
-use Rattle.composing.proofs.message.put.Statement.{statement}
-use Rattle.composing.proofs.message.put.Tie as tie
+use Rattle.composing.proofs.message.store_shape.Statement.{statement}
+use Rattle.composing.proofs.message.store_shape.Tie as tie
 
 first : (c : tie.After-first-octet) → c .first-octet .result ≡ 16 * typeOf (arrayKind (now (c .before .before .before .args .codes)))
 first c = c .first-octet .ensures ∙ ap (λ (k : Kind). 16 * typeOf k) (c .before .before .before .pre .1 .0)
@@ -35,19 +35,19 @@ add-out c = omega (arith, rw (c .before .enum-told .given .1) at (c .before .bef
 polygon : (c : tie.After-enum-told) → arrayKind (now (c .before .before .before .before .before .args .codes)) ≡ Polygon
 polygon c = sym (c .before .before .before .before .before .pre .1 .0) ∙ c .enum-told .given .1
 
-put-requires : tie.Need-put-requires
-put-requires c κs =
+store-points-requires : tie.Need-store-points-requires
+store-points-requires c κs =
     let elements = now (c .before .before .before .before .before .before .before .args .codes) in
     let start = c .before .before .before .before .before .before .before .pre in
     let e = polygon (c .before .before) in
     (search needs, (omega (arith, count-small elements (start .1 .1 .0)), (simp length-set (polygon-room (recordIn elements) _ (start .1 .1 .1) e), used-within elements (start .1 .1 .0) e)))
 
 same-length : tie.Need-same-length
-same-length c = c .before .before .put .kept .0 ∙ simp length-set
+same-length c = c .before .before .store-points .kept .0 ∙ simp length-set
 
 returns : tie.Need-returns
 returns c =
-    c .before .before .put .ensures
+    c .before .before .store-points .ensures
     ∙ points-stored (now (c .before .before .before .before .before .before .before .before .before .before .args .codes)) (now (c .before .before .before .before .before .before .before .before .before .before .args .out)) (c .before .before .before .before .before .before .before .before .before .before .pre .1 .1 .1) (c .before .before .before .before .before .before .before .first-octet .result) (first (c .before .before .before .before .before .before .before)) (polygon (c .before .before .before .before .before))
 
 -- ---- any other kind
@@ -75,10 +75,10 @@ returns-2 c =
     ∙ ap (λ (l : List ℕ). sets l 7 (restOf (c .before .before .before .before .before .before .before .before .before .before .outline-in .result))) (c .before .before .before .before .before .before .put-position .ensures)
     ∙ parts-stored (now (c .before .before .before .before .before .before .before .before .before .before .before .before .before .before .before .args .codes)) (now (c .before .before .before .before .before .before .before .before .before .before .before .before .before .before .before .args .out)) (c .before .before .before .before .before .before .before .before .before .before .before .before .before .before .before .pre .1 .1 .1) (c .before .before .before .before .before .before .before .before .before .before .before .before .first-octet .result) (first (c .before .before .before .before .before .before .before .before .before .before .before .before)) (c .before .before .before .before .before .before .before .before .before .before .outline-in .ensures) (other (c .before .before .before .before .before .before .before .before .before .before .before))
 
-pub put-spec : {M : Type 1} → statement M
-put-spec =
+pub store-shape-spec : {M : Type 1} → statement M
+store-shape-spec =
     tie.close
     (tie.spec
-    (λ c κs. search needs) enum-told (λ c. search needs) cast-out add-out (λ c. search needs) put-requires
+    (λ c κs. search needs) enum-told (λ c. search needs) cast-out add-out (λ c. search needs) store-points-requires
     same-length returns (λ c κs. search needs) (λ c. search needs) put-position-requires put-rest-requires
     same-length-2 returns-2)

@@ -11,8 +11,8 @@ use Rattle.composing.specs.Composing.{rest}
 use Rattle.requests.specs.Codes.{wantedRecord}
 use Rattle.choice.proofs.StoredLaws.{position-room, parts-stored}
 use borrow.Author.Needs.{needs}
-use Rattle.choice.proofs.message.put.Statement.{statement}
-use Rattle.choice.proofs.message.put.Tie as tie
+use Rattle.choice.proofs.message.store_choice.Statement.{statement}
+use Rattle.choice.proofs.message.store_choice.Tie as tie
 
 slice-write-out : tie.Need-slice-write-out
 slice-write-out c = omega (arith, position-room (c .before .before .before .before .args .kind) (c .before .before .before .before .args .wanted) (c .before .before .before .before .pre .0) (c .before .before .before .before .pre .1 .0) _ (c .before .before .before .before .pre .1 .1))
@@ -35,8 +35,8 @@ returns c =
     ∙ ap (λ (v : ℕ). sets o 0 (v ∷ (position (w .latitude) (w .longitude) ++ rest k (wantedRecord k w)))) (c .before .before .before .before .before .before .before .before .first-octet .ensures)
     ∙ parts-stored k w (c .before .before .before .before .before .before .before .before .before .before .before .before .pre .0) (c .before .before .before .before .before .before .before .before .before .before .before .before .pre .1 .0) o (c .before .before .before .before .before .before .before .before .before .before .before .before .pre .1 .1)
 
-pub put-spec : {M : Type 1} → statement M
-put-spec =
+pub store-choice-spec : {M : Type 1} → statement M
+store-choice-spec =
     tie.close
     (tie.spec
     (λ c κs. search needs) slice-write-out put-position-requires put-rest-requires same-length returns)

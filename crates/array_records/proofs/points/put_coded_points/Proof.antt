@@ -8,8 +8,8 @@ use denote.Ref.{now}
 use borrow.Author.Needs.{needs}
 use Rattle.array_records.specs.Records.{PutsPointCodes}
 use Rattle.array_records.proofs.PointLaws.{coded-at, none-coded, one-put}
-use Rattle.array_records.proofs.points.put.Statement.{statement}
-use Rattle.array_records.proofs.points.put.Tie as tie
+use Rattle.array_records.proofs.points.put_coded_points.Statement.{statement}
+use Rattle.array_records.proofs.points.put_coded_points.Tie as tie
 
 abbrev Inv-loop : tie.InvT-loop
 Inv-loop out₀ given n end i₀ out i = (i ≤ n) × PutsPointCodes given i out₀ out × (length out ≡ length out₀)
@@ -36,8 +36,8 @@ same-length c = c .before .loop .inv .2
 returns : tie.Need-returns Inv-loop μ-loop
 returns c = let e : c .before .loop .i ≡ c .before .before .before .args .n = omega arith in rw e at (c .before .loop .inv .1)
 
-pub put-spec : {M : Type 1} → statement M
-put-spec =
+pub put-coded-points-spec : {M : Type 1} → statement M
+put-coded-points-spec =
     tie.close
     (tie.spec
     Inv-loop μ-loop loop-holds (λ c. search needs) (λ c. search needs) (λ c. search needs) (λ c. search needs)
