@@ -6,7 +6,7 @@ use mathlib.Core.List.{List}
 use native.Mathlib.Omega.{arith}
 use Rattle.ground.specs.Answers.{done, refused, met, unmet}
 use Rattle.ground.specs.declared.code.UncertaintyCode.{UncertaintyCode}
-use Rattle.ground.proofs.AnswerLaws.{unless-one, said-one, done-not-refused}
+use Rattle.ground.proofs.AnswerLaws.{unless-one, zero-one, said-one, done-not-refused}
 use Rattle.radii.proofs.CoverLaws.{covers-up}
 use Rattle.fields.specs.Fields.{Coding}
 use Rattle.fields.proofs.OneAnswer.{coding-one, reporting-one}
@@ -35,7 +35,7 @@ module _ (rows : List Row) where
 
   pub code-answer-one : (n : ℕ) (quantity : PlaceQuantities) (a b : ℕ) → CodeAnswer rows n quantity a → CodeAnswer rows n quantity b → a ≡ b
   code-answer-one n quantity =
-      unless-one _ 2 _ (unless-one _ 4 _ (unless-one _ 7 _ (unless-one _ 8 _ (λ a b e f. e ∙ sym f))))
+      unless-one _ 2 _ (unless-one _ 4 _ (unless-one _ 7 _ (unless-one _ 8 _ zero-one)))
 
   -- ---- reported and coded again
 

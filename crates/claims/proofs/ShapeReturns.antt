@@ -22,7 +22,7 @@ use Rattle.layout.specs.Demands.{Used, CountSound, Sound}
 use Rattle.layout.specs.Shapes.{rowsIn, rowsOf, valueOf, zeroLatitude, zeroLongitude, blankShape, ReadsShape, WritesShape, Fifteen}
 use Rattle.layout.proofs.KindLaws.{fixed-width}
 use Rattle.layout.proofs.DemandLaws.{sound}
-use Rattle.layout.proofs.OneMessage.{write-answer-one}
+use Rattle.layout.proofs.OneMessage.{write-outcome-one}
 use Rattle.layout.proofs.ShapeTrips.{shape-taken, shape-accepted, shape-whole, shape-again}
 use Rattle.quantities.specs.declared.shape.ShapeQuantities.{ShapeQuantities}
 use Rattle.quantities.specs.declared.shape.ShapeReported.{ShapeReported}
@@ -103,7 +103,7 @@ reported-one x (Refused why) q r a b = a ∙ sym b
 
 pub reports-shape-one : (x : Shape) (a b : ShapeReported) → ReportsShape x a → ReportsShape x b → a ≡ b
 reports-shape-one x a b p q =
-    let e = outcome-one (a .outcome) (b .outcome) (write-answer-one (rowsOf x) (valueOf x) (lengthOf (rowsOf x)) _ _ (p .answer) (q .answer)) in
+    let e = write-outcome-one (rowsOf x) (valueOf x) (lengthOf (rowsOf x)) (a .outcome) (b .outcome) (p .answer) (q .answer) in
     let d = reported-one x (b .outcome) (a .quantities) (b .quantities) (subst (λ (o : Outcome). Given o (QuantitiesOf x (a .quantities)) (a .quantities ≡ noShape)) e (p .quantities)) (q .quantities) in
     λ j. record { outcome = e j; quantities = d j }
 
@@ -138,7 +138,7 @@ module _ (x : Shape) (can : TakesShape x) where
   -- it is reported
   reports-own : (r : ShapeReported) → ReportsShape x r → QuantitiesOf x (r .quantities)
   reports-own r p =
-      let done : r .outcome ≡ Done = outcome-one (r .outcome) Done (write-answer-one (rowsOf x) (valueOf x) (lengthOf (rowsOf x)) _ 0 (p .answer) can) in
+      let done : r .outcome ≡ Done = write-outcome-one (rowsOf x) (valueOf x) (lengthOf (rowsOf x)) (r .outcome) Done (p .answer) can in
       subst (λ (o : Outcome). Given o (QuantitiesOf x (r .quantities)) (r .quantities ≡ noShape)) done (p .quantities)
 
   -- the answer to its quantities, from the answer by its own rows

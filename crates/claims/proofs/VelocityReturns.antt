@@ -18,7 +18,7 @@ use Rattle.layout.specs.Rows.{lengthOf, spareZero}
 use Rattle.layout.specs.Demands.{Used, Sound}
 use Rattle.layout.specs.Velocities.{velocityRowsIn, velocityValueOf, blankVelocity, ReadsVelocity, WritesVelocity}
 use Rattle.layout.proofs.DemandLaws.{sound}
-use Rattle.layout.proofs.OneMessage.{write-answer-one}
+use Rattle.layout.proofs.OneMessage.{write-outcome-one}
 use Rattle.layout.proofs.WidthLaws.{velocity-width}
 use Rattle.layout.proofs.VelocityTrips.{velocity-taken, velocity-accepted, velocity-again}
 use Rattle.quantities.specs.declared.velocity.VelocityQuantities.{VelocityQuantities}
@@ -64,7 +64,7 @@ reported-one x (Refused why) q r a b = a ∙ sym b
 pub reports-velocity-one : (x : Velocity) (a b : VelocityReported) → ReportsVelocity x a → ReportsVelocity x b → a ≡ b
 reports-velocity-one x a b p q =
     let rows = velocityRows (x .kind) in
-    let e = outcome-one (a .outcome) (b .outcome) (write-answer-one rows (velocityValueOf x) (lengthOf rows) _ _ (p .answer) (q .answer)) in
+    let e = write-outcome-one rows (velocityValueOf x) (lengthOf rows) (a .outcome) (b .outcome) (p .answer) (q .answer) in
     let d = reported-one x (b .outcome) (a .quantities) (b .quantities) (subst (λ (o : Outcome). Given o (VelocityQuantitiesOf x (a .quantities)) (a .quantities ≡ noVelocity)) e (p .quantities)) (q .quantities) in
     λ j. record { outcome = e j; quantities = d j }
 
@@ -107,7 +107,7 @@ module _ (x : Velocity) (can : TakesVelocity x) where
   pub velocity-returns : (r : VelocityReported) (c : VelocityCoded) → ReportsVelocity x r → CodesVelocity (r .quantities) c → (c .outcome ≡ Done) × (c .velocity ≡ x)
   velocity-returns r c p s =
       let rows = velocityRows (x .kind) in
-      let reports : r .outcome ≡ Done = outcome-one (r .outcome) Done (write-answer-one rows (velocityValueOf x) (lengthOf rows) _ 0 (p .answer) can) in
+      let reports : r .outcome ≡ Done = write-outcome-one rows (velocityValueOf x) (lengthOf rows) (r .outcome) Done (p .answer) can in
       let reported : VelocityQuantitiesOf x (r .quantities) = subst (λ (o : Outcome). Given o (VelocityQuantitiesOf x (r .quantities)) (r .quantities ≡ noVelocity)) reports (p .quantities) in
       let codes : c .outcome ≡ Done = outcome-one (c .outcome) Done (code-answer-one (velocityRows (r .quantities .kind)) 0 (velocityQuantityAt (r .quantities)) _ 0 (s .answer) (answer (r .quantities) reported)) in
       let made : VelocityRecordOf (r .quantities) (c .velocity) = subst (λ (o : Outcome). Given o (VelocityRecordOf (r .quantities) (c .velocity)) (c .velocity ≡ blankVelocity Nothing)) codes (s .velocity) in

@@ -4,7 +4,7 @@ use mathlib.Core.Path.{_≡_, refl, sym, ap, _∙_}
 use mathlib.Core.Bool.{Bool, true, false, not}
 use Prim.Native.Nat.{ℕ}
 use native.Mathlib.Omega.{arith}
-use Rattle.ground.specs.Answers.{numberOf, refusalOf, outcomeNumber, Unless, unmet, met, Decides, Said, done, refused, Answer}
+use Rattle.ground.specs.Answers.{numberOf, refusalOf, outcomeNumber, Unless, unmet, met, Else0, Decides, Said, done, refused, Answer}
 use Rattle.ground.specs.declared.refusals.Outcome.{Outcome}
 use Rattle.ground.specs.declared.refusals.Outcome.the-variants as outcome
 use Rattle.ground.specs.declared.refusals.Refusal.{Refusal}
@@ -61,6 +61,14 @@ outcome-one outcome.Done outcome.Done e = refl
 outcome-one outcome.Done (outcome.Refused why) e = absurd (not-0 why (sym e))
 outcome-one (outcome.Refused why) outcome.Done e = absurd (not-0 why e)
 outcome-one (outcome.Refused a) (outcome.Refused b) e = ap outcome.Refused (told-by numberOf refusalOf refusal-back a b e)
+
+-- a promise that leaves one number leaves one outcome
+pub promised-one : (promise : ℕ → Type 0) → ((a b : ℕ) → promise a → promise b → a ≡ b) → (r q : Outcome) → promise (outcomeNumber r) → promise (outcomeNumber q) → r ≡ q
+promised-one promise one r q p o = outcome-one r q (one (outcomeNumber r) (outcomeNumber q) p o)
+
+-- with no demand left there is one number
+pub zero-one : (a b : ℕ) → Else0 a → Else0 b → a ≡ b
+zero-one a b e f = e ∙ sym f
 
 module _ (demand : Type 0) (n : ℕ) (others : ℕ → Type 0) where
   -- demands that are looked at in order give one number

@@ -3,9 +3,9 @@ use Prim.Native.Nat.{ℕ}
 use mathlib.Core.Path.{_≡_, ap, sym, _∙_}
 use mathlib.Core.List.{List, _++_}
 use lib.ListN.{length, drop}
-use Rattle.ground.specs.Answers.{handed}
+use Rattle.ground.specs.Answers.{outcomeNumber, handed}
 use Rattle.ground.specs.declared.refusals.Outcome.{Outcome}
-use Rattle.ground.proofs.AnswerLaws.{unless-one, outcome-one}
+use Rattle.ground.proofs.AnswerLaws.{unless-one, zero-one, outcome-one, promised-one}
 use Rattle.layout.specs.declared.Written.{Written}
 use Rattle.layout.specs.declared.shape.ShapeRead.{ShapeRead}
 use Rattle.layout.specs.declared.velocity.VelocityRead.{VelocityRead}
@@ -17,9 +17,6 @@ use Rattle.layout.specs.Demands.{ReadAnswer, WriteAnswer, CodesAnswer, W
 use Rattle.layout.specs.Shapes.{ReadsShape, rowsIn, shapeIn, blankShape}
 use Rattle.layout.specs.Velocities.{ReadsVelocity, velocityRowsIn, velocityIn, blankVelocity}
 
-zero-one : (a b : ℕ) → a ≡ 0 → b ≡ 0 → a ≡ b
-zero-one a b e f = e ∙ sym f
-
 pub read-answer-one : (rows : List Row) (s : List ℕ) (a b : ℕ) → ReadAnswer rows s a → ReadAnswer rows s b → a ≡ b
 read-answer-one rows s =
     unless-one _ 1 _ (unless-one _ 2 _ (unless-one _ 4 _ (unless-one _ 3 _ (unless-one _ 5 _ (unless-one _ 6 _ zero-one)))))
@@ -28,8 +25,11 @@ pub write-answer-one : (rows : List Row) (value : MessageField → ℕ) (room a 
 write-answer-one rows value room =
     unless-one _ 2 _ (unless-one _ 4 _ (unless-one _ 5 _ (unless-one _ 6 _ (unless-one _ 7 _ (unless-one _ 10 _ zero-one)))))
 
-pub codes-answer-one : (w x y z a b : ℕ) → CodesAnswer w x y z a → CodesAnswer w x y z b → a ≡ b
-codes-answer-one w x y z = unless-one _ 5 _ (unless-one _ 6 _ zero-one)
+pub write-outcome-one : (rows : List Row) (value : MessageField → ℕ) (room : ℕ) (r q : Outcome) → WriteAnswer rows value room (outcomeNumber r) → WriteAnswer rows value room (outcomeNumber q) → r ≡ q
+write-outcome-one rows value room = promised-one (WriteAnswer rows value room) (write-answer-one rows value room)
+
+pub codes-outcome-one : (w x y z : ℕ) (r q : Outcome) → CodesAnswer w x y z (outcomeNumber r) → CodesAnswer w x y z (outcomeNumber q) → r ≡ q
+codes-outcome-one w x y z = promised-one (CodesAnswer w x y z) (unless-one _ 5 _ (unless-one _ 6 _ zero-one))
 
 pub reads-shape-one : (s : List ℕ) (r q : ShapeRead) → ReadsShape s r → ReadsShape s q → r ≡ q
 reads-shape-one s r q a b =
@@ -46,7 +46,7 @@ reads-velocity-one s r q a b =
 -- a record's answer and what the buffer then holds, for shapes and velocities
 module _ (rows : List Row) (value : MessageField → ℕ) (before after after′ : List ℕ) (r q : Written) (a : Writes rows value before after r) (b : Writes rows value before after′ q) where
   same : r .outcome ≡ q .outcome
-  same = outcome-one (r .outcome) (q .outcome) (write-answer-one rows value (length before) _ _ (a .answer) (b .answer))
+  same = write-outcome-one rows value (length before) (r .outcome) (q .outcome) (a .answer) (b .answer)
 
   pub writes-one : r ≡ q
   writes-one =

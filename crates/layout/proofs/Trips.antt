@@ -16,7 +16,7 @@ use Rattle.layout.specs.Rows.{read, lengthOf, message, spareZero}
 use Rattle.layout.specs.Demands.{CountSound, AnglesSound, ConfidenceSound, ReadAnswer, WriteAnswer, Writes, Sound}
 use Rattle.layout.proofs.TidyLaws.{Tidy, read-in-fields, read-message, written-again, message-length}
 use Rattle.layout.proofs.DemandLaws.{Readable, readable, read-done, sound, write-done}
-use Rattle.layout.proofs.OneMessage.{read-answer-one, write-answer-one}
+use Rattle.layout.proofs.OneMessage.{read-answer-one, write-outcome-one}
 
 -- records of one sort, their rows and numbers, and what is known of them
 pub record Coder (R : Type 0) : Type 1 where
@@ -111,7 +111,7 @@ module _ {R : Type 0} (c : Coder R) where
         let answer : WriteAnswer (c .rowsOf x) (c .value x) (length before) 0 =
         subst (λ (y : R). WriteAnswer (c .rowsOf y) (c .value y) (length before) 0) (sym e)
         (write-done _ _ (length before) (sound-in s is-readable) (rw (length-in s is-readable) room)) in
-        let o : w .outcome ≡ Done = outcome-one (w .outcome) Done (write-answer-one (c .rowsOf x) (c .value x) (length before) _ 0 (writes .answer) answer) in
+        let o : w .outcome ≡ Done = write-outcome-one (c .rowsOf x) (c .value x) (length before) (w .outcome) Done (writes .answer) answer in
         let l = writes .written ∙ ap (λ (q : Outcome). handed q (lengthOf (c .rowsOf x)) 0) o ∙ ap (λ (y : R). lengthOf (c .rowsOf y)) e ∙ length-in s is-readable in
         λ i. record { outcome = o i; length = l i }
 

@@ -1,4 +1,5 @@
 pub mod FormLaws
+pub mod OneAnswer
 pub mod ShapeLaws
 pub mod UseLaws
 pub mod VelocityLaws
