@@ -12,7 +12,8 @@ use Rattle.ground.specs.declared.quantity.Confidence.{Confidence}
 use Rattle.ground.specs.declared.quantity.Confidence.the-variants as confident
 use Rattle.ground.specs.declared.said.SaidCode.{SaidCode}
 use Rattle.ground.specs.declared.said.SaidQuantity.{SaidQuantity}
-use Rattle.fields.specs.Fields.{Field, latitude, longitude, uncertainty, altitudeUncertainty, altitude, innerRadius, offset, included, orientation, bearing, horizontalSpeed, verticalSpeed, uncertaintySpeed, confidence, CodeOf, QuantityOf}
+use Rattle.fields.specs.Fields.{Field, CodeOf, QuantityOf}
+use Rattle.fields.specs.Fields as field
 use Rattle.fields.specs.Places.{placeOf}
 use Rattle.fields.proofs.PlaceLaws.{place-one, past-places}
 use Rattle.one_field.specs.Coding as coding
@@ -49,20 +50,20 @@ confidence-back z (confident.PerCent p) i = ap confidenceIn (i .number)
 confidence-back z confident.Missing i = ap confidenceIn i
 
 quantity-one : (f : Field) (z : ℤ) (x y : QuantityOf f) → QuantityArrives f z x → QuantityArrives f z y → x ≡ y
-quantity-one latitude z x y s t = λ i. record { 0 = (sym s ∙ t) i }
-quantity-one longitude z x y s t = λ i. record { 0 = (sym s ∙ t) i }
-quantity-one uncertainty z x y s t = λ i. record { 0 = natural-one s t i }
-quantity-one altitudeUncertainty z x y s t = λ i. record { 0 = natural-one s t i }
-quantity-one altitude z x y s t = λ i. record { 0 = signed-one s t i }
-quantity-one innerRadius z x y s t = λ i. record { 0 = natural-one s t i }
-quantity-one offset z x y s t = λ i. record { 0 = natural-one s t i }
-quantity-one included z x y s t = λ i. record { 0 = natural-one s t i }
-quantity-one orientation z x y s t = λ i. record { 0 = natural-one s t i }
-quantity-one bearing z x y s t = λ i. record { 0 = natural-one s t i }
-quantity-one horizontalSpeed z x y s t = λ i. record { 0 = natural-one s t i }
-quantity-one verticalSpeed z x y s t = λ i. record { 0 = signed-one s t i }
-quantity-one uncertaintySpeed z x y s t = sym (speed-back z x s) ∙ speed-back z y t
-quantity-one confidence z x y s t = sym (confidence-back z x s) ∙ confidence-back z y t
+quantity-one field.latitude z x y s t = λ i. record { 0 = (sym s ∙ t) i }
+quantity-one field.longitude z x y s t = λ i. record { 0 = (sym s ∙ t) i }
+quantity-one field.uncertainty z x y s t = λ i. record { 0 = natural-one s t i }
+quantity-one field.altitudeUncertainty z x y s t = λ i. record { 0 = natural-one s t i }
+quantity-one field.altitude z x y s t = λ i. record { 0 = signed-one s t i }
+quantity-one field.innerRadius z x y s t = λ i. record { 0 = natural-one s t i }
+quantity-one field.offset z x y s t = λ i. record { 0 = natural-one s t i }
+quantity-one field.included z x y s t = λ i. record { 0 = natural-one s t i }
+quantity-one field.orientation z x y s t = λ i. record { 0 = natural-one s t i }
+quantity-one field.bearing z x y s t = λ i. record { 0 = natural-one s t i }
+quantity-one field.horizontalSpeed z x y s t = λ i. record { 0 = natural-one s t i }
+quantity-one field.verticalSpeed z x y s t = λ i. record { 0 = signed-one s t i }
+quantity-one field.uncertaintySpeed z x y s t = sym (speed-back z x s) ∙ speed-back z y t
+quantity-one field.confidence z x y s t = sym (confidence-back z x s) ∙ confidence-back z y t
 
 -- ---- the code in elements, which are enough
 
@@ -70,20 +71,20 @@ code-one : {elements : List ℕ} {n m : ℕ} → IsCode elements n → IsCode el
 code-one s t = s .number ∙ sym (t .number)
 
 saying : (f : Field) (elements : List ℕ) (c d : CodeOf f) → SaysCode f elements c → SaysCode f elements d → (c ≡ d) × (countOf f ≤ length elements)
-saying latitude elements c d s t = (λ i. record { 0 = (s .sign ∙ sym (t .sign)) i; 1 = (s .number ∙ sym (t .number)) i }, s .both)
-saying longitude elements c d s t = (λ i. record { 0 = (s .number ∙ sym (t .number)) i }, s .one)
-saying uncertainty elements c d s t = (λ i. record { 0 = code-one s t i }, s .one)
-saying altitudeUncertainty elements c d s t = (λ i. record { 0 = code-one s t i }, s .one)
-saying altitude elements c d s t = (λ i. record { 0 = (s .sign ∙ sym (t .sign)) i; 1 = (s .number ∙ sym (t .number)) i }, s .both)
-saying innerRadius elements c d s t = (λ i. record { 0 = code-one s t i }, s .one)
-saying offset elements c d s t = (λ i. record { 0 = code-one s t i }, s .one)
-saying included elements c d s t = (λ i. record { 0 = code-one s t i }, s .one)
-saying orientation elements c d s t = (λ i. record { 0 = code-one s t i }, s .one)
-saying bearing elements c d s t = (λ i. record { 0 = code-one s t i }, s .one)
-saying horizontalSpeed elements c d s t = (λ i. record { 0 = code-one s t i }, s .one)
-saying verticalSpeed elements c d s t = (λ i. record { 0 = (s .sign ∙ sym (t .sign)) i; 1 = (s .number ∙ sym (t .number)) i }, s .both)
-saying uncertaintySpeed elements c d s t = (λ i. record { 0 = code-one s t i }, s .one)
-saying confidence elements c d s t = (λ i. record { 0 = code-one s t i }, s .one)
+saying field.latitude elements c d s t = (λ i. record { 0 = (s .sign ∙ sym (t .sign)) i; 1 = (s .number ∙ sym (t .number)) i }, s .both)
+saying field.longitude elements c d s t = (λ i. record { 0 = (s .number ∙ sym (t .number)) i }, s .one)
+saying field.uncertainty elements c d s t = (λ i. record { 0 = code-one s t i }, s .one)
+saying field.altitudeUncertainty elements c d s t = (λ i. record { 0 = code-one s t i }, s .one)
+saying field.altitude elements c d s t = (λ i. record { 0 = (s .sign ∙ sym (t .sign)) i; 1 = (s .number ∙ sym (t .number)) i }, s .both)
+saying field.innerRadius elements c d s t = (λ i. record { 0 = code-one s t i }, s .one)
+saying field.offset elements c d s t = (λ i. record { 0 = code-one s t i }, s .one)
+saying field.included elements c d s t = (λ i. record { 0 = code-one s t i }, s .one)
+saying field.orientation elements c d s t = (λ i. record { 0 = code-one s t i }, s .one)
+saying field.bearing elements c d s t = (λ i. record { 0 = code-one s t i }, s .one)
+saying field.horizontalSpeed elements c d s t = (λ i. record { 0 = code-one s t i }, s .one)
+saying field.verticalSpeed elements c d s t = (λ i. record { 0 = (s .sign ∙ sym (t .sign)) i; 1 = (s .number ∙ sym (t .number)) i }, s .both)
+saying field.uncertaintySpeed elements c d s t = (λ i. record { 0 = code-one s t i }, s .one)
+saying field.confidence elements c d s t = (λ i. record { 0 = code-one s t i }, s .one)
 
 -- ---- what is said
 

@@ -27,21 +27,8 @@ use Rattle.layout.proofs.ShapeTrips.{shape-taken, shape-accepted, shape-whole, 
 use Rattle.quantities.specs.declared.shape.ShapeQuantities.{ShapeQuantities}
 use Rattle.quantities.specs.declared.shape.ShapeReported.{ShapeReported}
 use Rattle.quantities.specs.declared.shape.ShapeCoded.{ShapeCoded}
-use Rattle.quantities.specs.Places.{
-  Place,
-  latitude,
-  longitude,
-  altitude,
-  uncertainty,
-  semiMajor,
-  semiMinor,
-  orientation,
-  altitudeUncertainty,
-  confidence,
-  innerRadius,
-  offset,
-  included,
-}
+use Rattle.quantities.specs.Places.{Place}
+use Rattle.quantities.specs.Places as place
 use Rattle.quantities.specs.Promises.{EachCoded, CodeAnswer, Given}
 use Rattle.quantities.specs.Shapes.{codeAt, quantityAt, zeroDegrees, noShape, QuantitiesOf, ReportsShape, quantityRows, RecordOf, CodesShape, TakesShape}
 use Rattle.quantities.proofs.UnusedLaws.{no-number, unused-code}
@@ -53,21 +40,21 @@ use Rattle.claims.proofs.PlaceLaws.{reported-same, coded-same, code-ans
 same-shape : (x y : Shape) → x .kind ≡ y .kind → x .count ≡ y .count → Fifteen x → Fifteen y → ((p : Place) → codeAt x p ≡ codeAt y p) → x ≡ y
 same-shape x y k n a b same = λ j. record {
   kind = k j;
-  latitude = same (latitude 0) j;
-  longitude = same (longitude 0) j;
-  altitude = same altitude j;
-  uncertainty = same uncertainty j;
-  «semi_major» = same semiMajor j;
-  «semi_minor» = same semiMinor j;
-  orientation = same orientation j;
-  «altitude_uncertainty» = same altitudeUncertainty j;
-  confidence = same confidence j;
-  «inner_radius» = same innerRadius j;
-  offset = same offset j;
-  included = same included j;
+  latitude = same (place.latitude 0) j;
+  longitude = same (place.longitude 0) j;
+  altitude = same place.altitude j;
+  uncertainty = same place.uncertainty j;
+  «semi_major» = same place.semiMajor j;
+  «semi_minor» = same place.semiMinor j;
+  orientation = same place.orientation j;
+  «altitude_uncertainty» = same place.altitudeUncertainty j;
+  confidence = same place.confidence j;
+  «inner_radius» = same place.innerRadius j;
+  offset = same place.offset j;
+  included = same place.included j;
   count = n j;
-  latitudes = ext-getD zeroLatitude (x .latitudes) (y .latitudes) (a .all-latitudes ∙ sym (b .all-latitudes)) (λ i h. same (latitude (suc i))) j;
-  longitudes = ext-getD zeroLongitude (x .longitudes) (y .longitudes) (a .all-longitudes ∙ sym (b .all-longitudes)) (λ i h. same (longitude (suc i))) j;
+  latitudes = ext-getD zeroLatitude (x .latitudes) (y .latitudes) (a .all-latitudes ∙ sym (b .all-latitudes)) (λ i h. same (place.latitude (suc i))) j;
+  longitudes = ext-getD zeroLongitude (x .longitudes) (y .longitudes) (a .all-longitudes ∙ sym (b .all-longitudes)) (λ i h. same (place.longitude (suc i))) j;
 }
 
 same-quantities : (x : Shape) (q r : ShapeQuantities) → QuantitiesOf x q → QuantitiesOf x r → q ≡ r
@@ -75,21 +62,21 @@ same-quantities x q r a b =
     let same = reported-same (rowsOf x) (codeAt x) (quantityAt q) (quantityAt r) (a .each) (b .each) in
     λ j. record {
       kind = (a .kinds ∙ sym (b .kinds)) j;
-      latitude = same (latitude 0) j;
-      longitude = same (longitude 0) j;
-      altitude = same altitude j;
-      uncertainty = same uncertainty j;
-      «semi_major» = same semiMajor j;
-      «semi_minor» = same semiMinor j;
-      orientation = same orientation j;
-      «altitude_uncertainty» = same altitudeUncertainty j;
-      confidence = same confidence j;
-      «inner_radius» = same innerRadius j;
-      offset = same offset j;
-      included = same included j;
+      latitude = same (place.latitude 0) j;
+      longitude = same (place.longitude 0) j;
+      altitude = same place.altitude j;
+      uncertainty = same place.uncertainty j;
+      «semi_major» = same place.semiMajor j;
+      «semi_minor» = same place.semiMinor j;
+      orientation = same place.orientation j;
+      «altitude_uncertainty» = same place.altitudeUncertainty j;
+      confidence = same place.confidence j;
+      «inner_radius» = same place.innerRadius j;
+      offset = same place.offset j;
+      included = same place.included j;
       count = (a .counts ∙ sym (b .counts)) j;
-      latitudes = ext-getD zeroDegrees (q .latitudes) (r .latitudes) (a .all-latitudes ∙ sym (b .all-latitudes)) (λ i h. same (latitude (suc i))) j;
-      longitudes = ext-getD zeroDegrees (q .longitudes) (r .longitudes) (a .all-longitudes ∙ sym (b .all-longitudes)) (λ i h. same (longitude (suc i))) j;
+      latitudes = ext-getD zeroDegrees (q .latitudes) (r .latitudes) (a .all-latitudes ∙ sym (b .all-latitudes)) (λ i h. same (place.latitude (suc i))) j;
+      longitudes = ext-getD zeroDegrees (q .longitudes) (r .longitudes) (a .all-longitudes ∙ sym (b .all-longitudes)) (λ i h. same (place.longitude (suc i))) j;
     }
 
 whole : (q : ShapeQuantities) (x : Shape) → RecordOf q x → Fifteen x

@@ -13,7 +13,8 @@ use Rattle.requests.specs.declared.Altitude.the-variants as level
 use Rattle.requests.specs.declared.Horizontal.the-variants.{Ellipse}
 use Rattle.requests.specs.declared.AltitudeUncertainty.the-variants as aloft
 use Rattle.requests.specs.Choice.{Listed, Chosen}
-use Rattle.fields.specs.Fields.{Field, latitude, longitude, uncertainty, altitudeUncertainty, offset, included, horizontalSpeed, verticalSpeed, CodeOf, QuantityOf, Coding, Reporting}
+use Rattle.fields.specs.Fields.{Field, CodeOf, QuantityOf, Coding, Reporting}
+use Rattle.fields.specs.Fields as field
 
 -- a quantity and the code that it has, a code and the quantity that it reports, or a request, a list and the message that is
 -- chosen, where there is room for it
@@ -45,24 +46,24 @@ degrees x = record { 0 = x }
 -- n below zero: `negsuc k` is -(k + 1)
 abbrev pub latitudes : List Figure
 latitudes =
-    codes latitude (degrees (pos 10728)) (north 0)
-    ∷ codes latitude (degrees (pos 10729)) (north 1)
-    ∷ codes latitude (degrees (pos 90000000000)) (north 8388607)
-    ∷ codes latitude (degrees (pos 89999989272)) (north 8388607)
-    ∷ codes latitude (degrees (pos 0)) (north 0)
-    ∷ codes latitude (degrees (negsuc 0)) (south 0)
-    ∷ reports latitude (south 0) (degrees (negsuc 0))
+    codes field.latitude (degrees (pos 10728)) (north 0)
+    ∷ codes field.latitude (degrees (pos 10729)) (north 1)
+    ∷ codes field.latitude (degrees (pos 90000000000)) (north 8388607)
+    ∷ codes field.latitude (degrees (pos 89999989272)) (north 8388607)
+    ∷ codes field.latitude (degrees (pos 0)) (north 0)
+    ∷ codes field.latitude (degrees (negsuc 0)) (south 0)
+    ∷ reports field.latitude (south 0) (degrees (negsuc 0))
     ∷ []
 
 abbrev pub longitudes : List Figure
 longitudes =
-    codes longitude (degrees (negsuc 21456)) (record { 0 = negsuc 0 })
-    ∷ codes longitude (degrees (negsuc 21457)) (record { 0 = negsuc 1 })
-    ∷ codes longitude (degrees (pos 180000000000)) (record { 0 = negsuc 8388607 })
+    codes field.longitude (degrees (negsuc 21456)) (record { 0 = negsuc 0 })
+    ∷ codes field.longitude (degrees (negsuc 21457)) (record { 0 = negsuc 1 })
+    ∷ codes field.longitude (degrees (pos 180000000000)) (record { 0 = negsuc 8388607 })
     ∷ []
 
 abbrev radius : ℕ → ℕ → Figure
-radius R K = codes uncertainty (record { 0 = R }) (record { 0 = K })
+radius R K = codes field.uncertainty (record { 0 = R }) (record { 0 = K })
 
 abbrev pub radii : List Figure
 radii =
@@ -77,24 +78,24 @@ radii =
     ∷ []
 
 abbrev height : ℕ → ℕ → Figure
-height R K = codes altitudeUncertainty (record { 0 = R }) (record { 0 = K })
+height R K = codes field.altitudeUncertainty (record { 0 = R }) (record { 0 = K })
 
 abbrev pub heights : List Figure
 heights = height 1125 1 ∷ height 1126 2 ∷ height 2278 2 ∷ height 2279 3 ∷ []
 
 abbrev pub angles : List Figure
 angles =
-    codes included (record { 0 = 2000 }) (record { 0 = 0 })
-    ∷ codes included (record { 0 = 2001 }) (record { 0 = 1 })
-    ∷ codes offset (record { 0 = 2000 }) (record { 0 = 1 })
+    codes field.included (record { 0 = 2000 }) (record { 0 = 0 })
+    ∷ codes field.included (record { 0 = 2001 }) (record { 0 = 1 })
+    ∷ codes field.offset (record { 0 = 2000 }) (record { 0 = 1 })
     ∷ []
 
 abbrev pub speeds : List Figure
 speeds =
-    codes horizontalSpeed (record { 0 = 499 }) (record { 0 = 0 })
-    ∷ codes horizontalSpeed (record { 0 = 500 }) (record { 0 = 1 })
-    ∷ codes verticalSpeed (record { 0 = pos 499 }) (record { 0 = false; 1 = 0 })
-    ∷ codes verticalSpeed (record { 0 = pos 500 }) (record { 0 = false; 1 = 1 })
+    codes field.horizontalSpeed (record { 0 = 499 }) (record { 0 = 0 })
+    ∷ codes field.horizontalSpeed (record { 0 = 500 }) (record { 0 = 1 })
+    ∷ codes field.verticalSpeed (record { 0 = pos 499 }) (record { 0 = false; 1 = 0 })
+    ∷ codes field.verticalSpeed (record { 0 = pos 500 }) (record { 0 = false; 1 = 1 })
     ∷ []
 
 -- 45 north, 90 west, an ellipse of 57274 by that semi-minor at 30 degrees

@@ -8,34 +8,8 @@ use Rattle.ground.specs.declared.code.LongitudeCode.{LongitudeCode}
 use Rattle.octets.specs.Codes.{bitOf, complement}
 use Rattle.layout.specs.declared.shape.Kind.{Kind}
 use Rattle.layout.specs.declared.shape.Shape.{Shape}
-use Rattle.layout.specs.Layout.{
-  MessageField,
-  typeNumber,
-  count,
-  south,
-  latitude,
-  longitude,
-  depth,
-  altitude,
-  uncertainty,
-  semiMajor,
-  semiMinor,
-  orientation,
-  altitudeUncertainty,
-  confidence,
-  innerRadius,
-  offset,
-  included,
-  bearing,
-  horizontalSpeed,
-  down,
-  verticalSpeed,
-  speedUncertainty,
-  verticalUncertainty,
-  Row,
-  shapeRows,
-  typeOf,
-}
+use Rattle.layout.specs.Layout.{MessageField, Row, shapeRows, typeOf}
+use Rattle.layout.specs.Layout as layout
 use Rattle.layout.specs.Shapes.{kindOf, shapeWith, shapeOf, zeroLatitude, zeroLongitude}
 use Rattle.code_arrays.specs.CodeNumbers.{elementAt, fromBits, bitsOf}
 
@@ -68,63 +42,63 @@ pub record Ended (latitudes : List LatitudeCode) (longitudes : List LongitudeCod
 
 -- the element of a field, a polygon's points being numbered from 1
 abbrev pub elementOf : MessageField → ℕ
-elementOf typeNumber = 0
-elementOf count = 1
-elementOf (south zero) = 2
-elementOf (latitude zero) = 3
-elementOf (longitude zero) = 4
-elementOf depth = 5
-elementOf altitude = 6
-elementOf uncertainty = 7
-elementOf semiMajor = 8
-elementOf semiMinor = 9
-elementOf orientation = 10
-elementOf altitudeUncertainty = 11
-elementOf innerRadius = 12
-elementOf offset = 13
-elementOf included = 14
-elementOf confidence = 15
-elementOf (south (suc i)) = 16 + 3 * i
-elementOf (latitude (suc i)) = 17 + 3 * i
-elementOf (longitude (suc i)) = 18 + 3 * i
+elementOf layout.typeNumber = 0
+elementOf layout.count = 1
+elementOf (layout.south zero) = 2
+elementOf (layout.latitude zero) = 3
+elementOf (layout.longitude zero) = 4
+elementOf layout.depth = 5
+elementOf layout.altitude = 6
+elementOf layout.uncertainty = 7
+elementOf layout.semiMajor = 8
+elementOf layout.semiMinor = 9
+elementOf layout.orientation = 10
+elementOf layout.altitudeUncertainty = 11
+elementOf layout.innerRadius = 12
+elementOf layout.offset = 13
+elementOf layout.included = 14
+elementOf layout.confidence = 15
+elementOf (layout.south (suc i)) = 16 + 3 * i
+elementOf (layout.latitude (suc i)) = 17 + 3 * i
+elementOf (layout.longitude (suc i)) = 18 + 3 * i
 -- no element: a velocity's
-elementOf bearing = 61
-elementOf horizontalSpeed = 61
-elementOf down = 61
-elementOf verticalSpeed = 61
-elementOf speedUncertainty = 61
-elementOf verticalUncertainty = 61
+elementOf layout.bearing = 61
+elementOf layout.horizontalSpeed = 61
+elementOf layout.down = 61
+elementOf layout.verticalSpeed = 61
+elementOf layout.speedUncertainty = 61
+elementOf layout.verticalUncertainty = 61
 
 -- the number of every field, by the first 61 elements; a longitude's is the one of 24 bits
 abbrev pub valueIn : List ℕ → MessageField → ℕ
-valueIn elements (longitude i) = complement (fromBits (elementAt (take 61 elements) (elementOf (longitude i))))
-valueIn elements typeNumber = elementAt (take 61 elements) (elementOf typeNumber)
-valueIn elements count = elementAt (take 61 elements) (elementOf count)
-valueIn elements (south i) = elementAt (take 61 elements) (elementOf (south i))
-valueIn elements (latitude i) = elementAt (take 61 elements) (elementOf (latitude i))
-valueIn elements depth = elementAt (take 61 elements) (elementOf depth)
-valueIn elements altitude = elementAt (take 61 elements) (elementOf altitude)
-valueIn elements uncertainty = elementAt (take 61 elements) (elementOf uncertainty)
-valueIn elements semiMajor = elementAt (take 61 elements) (elementOf semiMajor)
-valueIn elements semiMinor = elementAt (take 61 elements) (elementOf semiMinor)
-valueIn elements orientation = elementAt (take 61 elements) (elementOf orientation)
-valueIn elements altitudeUncertainty = elementAt (take 61 elements) (elementOf altitudeUncertainty)
-valueIn elements confidence = elementAt (take 61 elements) (elementOf confidence)
-valueIn elements innerRadius = elementAt (take 61 elements) (elementOf innerRadius)
-valueIn elements offset = elementAt (take 61 elements) (elementOf offset)
-valueIn elements included = elementAt (take 61 elements) (elementOf included)
-valueIn elements bearing = 0
-valueIn elements horizontalSpeed = 0
-valueIn elements down = 0
-valueIn elements verticalSpeed = 0
-valueIn elements speedUncertainty = 0
-valueIn elements verticalUncertainty = 0
+valueIn elements (layout.longitude i) = complement (fromBits (elementAt (take 61 elements) (elementOf (layout.longitude i))))
+valueIn elements layout.typeNumber = elementAt (take 61 elements) (elementOf layout.typeNumber)
+valueIn elements layout.count = elementAt (take 61 elements) (elementOf layout.count)
+valueIn elements (layout.south i) = elementAt (take 61 elements) (elementOf (layout.south i))
+valueIn elements (layout.latitude i) = elementAt (take 61 elements) (elementOf (layout.latitude i))
+valueIn elements layout.depth = elementAt (take 61 elements) (elementOf layout.depth)
+valueIn elements layout.altitude = elementAt (take 61 elements) (elementOf layout.altitude)
+valueIn elements layout.uncertainty = elementAt (take 61 elements) (elementOf layout.uncertainty)
+valueIn elements layout.semiMajor = elementAt (take 61 elements) (elementOf layout.semiMajor)
+valueIn elements layout.semiMinor = elementAt (take 61 elements) (elementOf layout.semiMinor)
+valueIn elements layout.orientation = elementAt (take 61 elements) (elementOf layout.orientation)
+valueIn elements layout.altitudeUncertainty = elementAt (take 61 elements) (elementOf layout.altitudeUncertainty)
+valueIn elements layout.confidence = elementAt (take 61 elements) (elementOf layout.confidence)
+valueIn elements layout.innerRadius = elementAt (take 61 elements) (elementOf layout.innerRadius)
+valueIn elements layout.offset = elementAt (take 61 elements) (elementOf layout.offset)
+valueIn elements layout.included = elementAt (take 61 elements) (elementOf layout.included)
+valueIn elements layout.bearing = 0
+valueIn elements layout.horizontalSpeed = 0
+valueIn elements layout.down = 0
+valueIn elements layout.verticalSpeed = 0
+valueIn elements layout.speedUncertainty = 0
+valueIn elements layout.verticalUncertainty = 0
 
 abbrev pub arrayKind : List ℕ → Kind
-arrayKind elements = kindOf (valueIn elements typeNumber)
+arrayKind elements = kindOf (valueIn elements layout.typeNumber)
 
 abbrev pub arrayRows : List ℕ → List Row
-arrayRows elements = shapeRows (arrayKind elements) (valueIn elements count)
+arrayRows elements = shapeRows (arrayKind elements) (valueIn elements layout.count)
 
 -- the record, where each number is within its field
 abbrev pub recordIn : List ℕ → Shape

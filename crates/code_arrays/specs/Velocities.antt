@@ -4,34 +4,8 @@ use Prim.Native.Nat.{ℕ, _≤_}
 use lib.Dec.{eqb}
 use Rattle.octets.specs.Codes.{bitOf}
 use Rattle.layout.specs.declared.velocity.Velocity.{Velocity}
-use Rattle.layout.specs.Layout.{
-  MessageField,
-  typeNumber,
-  count,
-  south,
-  latitude,
-  longitude,
-  depth,
-  altitude,
-  uncertainty,
-  semiMajor,
-  semiMinor,
-  orientation,
-  altitudeUncertainty,
-  confidence,
-  innerRadius,
-  offset,
-  included,
-  bearing,
-  horizontalSpeed,
-  down,
-  verticalSpeed,
-  speedUncertainty,
-  verticalUncertainty,
-  Row,
-  velocityRows,
-  velocityTypeOf,
-}
+use Rattle.layout.specs.Layout.{MessageField, Row, velocityRows, velocityTypeOf}
+use Rattle.layout.specs.Layout as layout
 use Rattle.layout.specs.Velocities.{velocityKindOf, velocityOf}
 use Rattle.code_arrays.specs.CodeNumbers.{elementAt, capped}
 
@@ -45,35 +19,35 @@ velocityElements x =
 
 -- the number of every field; a shape's are 0
 abbrev pub velocityValueIn : List ℕ → MessageField → ℕ
-velocityValueIn elements typeNumber = elementAt elements 0
-velocityValueIn elements bearing = elementAt elements 1
-velocityValueIn elements horizontalSpeed = elementAt elements 2
-velocityValueIn elements down = elementAt elements 3
-velocityValueIn elements verticalSpeed = elementAt elements 4
-velocityValueIn elements speedUncertainty = elementAt elements 5
-velocityValueIn elements verticalUncertainty = elementAt elements 6
-velocityValueIn elements count = 0
-velocityValueIn elements (south i) = 0
-velocityValueIn elements (latitude i) = 0
-velocityValueIn elements (longitude i) = 0
-velocityValueIn elements depth = 0
-velocityValueIn elements altitude = 0
-velocityValueIn elements uncertainty = 0
-velocityValueIn elements semiMajor = 0
-velocityValueIn elements semiMinor = 0
-velocityValueIn elements orientation = 0
-velocityValueIn elements altitudeUncertainty = 0
-velocityValueIn elements confidence = 0
-velocityValueIn elements innerRadius = 0
-velocityValueIn elements offset = 0
-velocityValueIn elements included = 0
+velocityValueIn elements layout.typeNumber = elementAt elements 0
+velocityValueIn elements layout.bearing = elementAt elements 1
+velocityValueIn elements layout.horizontalSpeed = elementAt elements 2
+velocityValueIn elements layout.down = elementAt elements 3
+velocityValueIn elements layout.verticalSpeed = elementAt elements 4
+velocityValueIn elements layout.speedUncertainty = elementAt elements 5
+velocityValueIn elements layout.verticalUncertainty = elementAt elements 6
+velocityValueIn elements layout.count = 0
+velocityValueIn elements (layout.south i) = 0
+velocityValueIn elements (layout.latitude i) = 0
+velocityValueIn elements (layout.longitude i) = 0
+velocityValueIn elements layout.depth = 0
+velocityValueIn elements layout.altitude = 0
+velocityValueIn elements layout.uncertainty = 0
+velocityValueIn elements layout.semiMajor = 0
+velocityValueIn elements layout.semiMinor = 0
+velocityValueIn elements layout.orientation = 0
+velocityValueIn elements layout.altitudeUncertainty = 0
+velocityValueIn elements layout.confidence = 0
+velocityValueIn elements layout.innerRadius = 0
+velocityValueIn elements layout.offset = 0
+velocityValueIn elements layout.included = 0
 
 abbrev pub arrayVelocityRows : List ℕ → List Row
-arrayVelocityRows elements = velocityRows (velocityKindOf (velocityValueIn elements typeNumber))
+arrayVelocityRows elements = velocityRows (velocityKindOf (velocityValueIn elements layout.typeNumber))
 
 -- the record, where each number is within its field
 abbrev pub velocityRecordIn : List ℕ → Velocity
-velocityRecordIn elements = velocityOf (velocityKindOf (velocityValueIn elements typeNumber)) (velocityValueIn elements)
+velocityRecordIn elements = velocityOf (velocityKindOf (velocityValueIn elements layout.typeNumber)) (velocityValueIn elements)
 
 -- ---- the record that is made of elements, whatever they hold
 

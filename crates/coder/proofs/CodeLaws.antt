@@ -12,7 +12,8 @@ use Rattle.ground.specs.declared.quantity.UncertaintySpeed.the-variants as unce
 use Rattle.ground.specs.declared.quantity.Confidence.{Confidence}
 use Rattle.ground.specs.declared.quantity.Confidence.the-variants as confident
 use Rattle.ground.specs.declared.said.SaidCode.{SaidCode}
-use Rattle.fields.specs.Fields.{Field, latitude, longitude, uncertainty, altitudeUncertainty, altitude, innerRadius, offset, included, orientation, bearing, horizontalSpeed, verticalSpeed, uncertaintySpeed, confidence, QuantityOf}
+use Rattle.fields.specs.Fields.{Field, QuantityOf}
+use Rattle.fields.specs.Fields as field
 use Rattle.one_field.specs.declared.coding.Coordinate.{Coordinate}
 use Rattle.one_field.specs.declared.coding.Coordinate.the-variants as coordinate
 use Rattle.one_field.specs.declared.coding.Unsigned.{Unsigned}
@@ -41,8 +42,8 @@ coordinate-coded coordinate.Latitude {text} a s t p = coded (number-uncut text (
 coordinate-coded coordinate.Longitude {text} a s t p = coded (number-uncut text (s .means)) s t p
 
 pub coordinate-uncoded : (k : Coordinate) (text : List ℕ) → ((z : ℤ) → SaysSigned 64 text z → ⊥) → CodesText (coordinateField k) (fieldsOf text) Unreadable
-coordinate-uncoded coordinate.Latitude text h = unwritten latitude text (λ x s. h (x .0) s)
-coordinate-uncoded coordinate.Longitude text h = unwritten longitude text (λ x s. h (x .0) s)
+coordinate-uncoded coordinate.Latitude text h = unwritten field.latitude text (λ x s. h (x .0) s)
+coordinate-uncoded coordinate.Longitude text h = unwritten field.longitude text (λ x s. h (x .0) s)
 
 -- ---- what has no sign
 
@@ -68,34 +69,34 @@ unsigned-coded unsigned.UncertaintySpeed {text} a s t p = λ d. coded (number-un
 unsigned-coded unsigned.Confidence {text} a s t p = λ d. coded (number-uncut text (s .means)) s t p
 
 pub unsigned-uncoded : (k : Unsigned) (text : List ℕ) → ((n : ℕ) → SaysUnsigned text n → ⊥) → CodesUnsigned k text Unreadable
-unsigned-uncoded unsigned.Uncertainty text h = unwritten uncertainty text (λ x s. h (x .0) s)
-unsigned-uncoded unsigned.AltitudeUncertainty text h = unwritten altitudeUncertainty text (λ x s. h (x .0) s)
-unsigned-uncoded unsigned.InnerRadius text h = unwritten innerRadius text (λ x s. h (x .0) s)
-unsigned-uncoded unsigned.Offset text h = unwritten offset text (λ x s. h (x .0) s)
-unsigned-uncoded unsigned.Included text h = unwritten included text (λ x s. h (x .0) s)
-unsigned-uncoded unsigned.Orientation text h = unwritten orientation text (λ x s. h (x .0) s)
-unsigned-uncoded unsigned.Bearing text h = unwritten bearing text (λ x s. h (x .0) s)
-unsigned-uncoded unsigned.HorizontalSpeed text h = unwritten horizontalSpeed text (λ x s. h (x .0) s)
-unsigned-uncoded unsigned.UncertaintySpeed text h = λ d. unwritten uncertaintySpeed text (no-speed text h d)
-unsigned-uncoded unsigned.Confidence text h = λ d. unwritten confidence text (no-confidence text h d)
+unsigned-uncoded unsigned.Uncertainty text h = unwritten field.uncertainty text (λ x s. h (x .0) s)
+unsigned-uncoded unsigned.AltitudeUncertainty text h = unwritten field.altitudeUncertainty text (λ x s. h (x .0) s)
+unsigned-uncoded unsigned.InnerRadius text h = unwritten field.innerRadius text (λ x s. h (x .0) s)
+unsigned-uncoded unsigned.Offset text h = unwritten field.offset text (λ x s. h (x .0) s)
+unsigned-uncoded unsigned.Included text h = unwritten field.included text (λ x s. h (x .0) s)
+unsigned-uncoded unsigned.Orientation text h = unwritten field.orientation text (λ x s. h (x .0) s)
+unsigned-uncoded unsigned.Bearing text h = unwritten field.bearing text (λ x s. h (x .0) s)
+unsigned-uncoded unsigned.HorizontalSpeed text h = unwritten field.horizontalSpeed text (λ x s. h (x .0) s)
+unsigned-uncoded unsigned.UncertaintySpeed text h = λ d. unwritten field.uncertaintySpeed text (no-speed text h d)
+unsigned-uncoded unsigned.Confidence text h = λ d. unwritten field.confidence text (no-confidence text h d)
 
 -- ---- a place that is no field's
 
 place-below : (f : Field) → placeOf f < 14
-place-below latitude = omega arith
-place-below longitude = omega arith
-place-below uncertainty = omega arith
-place-below altitudeUncertainty = omega arith
-place-below altitude = omega arith
-place-below innerRadius = omega arith
-place-below offset = omega arith
-place-below included = omega arith
-place-below orientation = omega arith
-place-below bearing = omega arith
-place-below horizontalSpeed = omega arith
-place-below verticalSpeed = omega arith
-place-below uncertaintySpeed = omega arith
-place-below confidence = omega arith
+place-below field.latitude = omega arith
+place-below field.longitude = omega arith
+place-below field.uncertainty = omega arith
+place-below field.altitudeUncertainty = omega arith
+place-below field.altitude = omega arith
+place-below field.innerRadius = omega arith
+place-below field.offset = omega arith
+place-below field.included = omega arith
+place-below field.orientation = omega arith
+place-below field.bearing = omega arith
+place-below field.horizontalSpeed = omega arith
+place-below field.verticalSpeed = omega arith
+place-below field.uncertaintySpeed = omega arith
+place-below field.confidence = omega arith
 
 pub past-fields : (n : ℕ) → Passed 14 n → (f : Field) → placeOf f ≡ n → ⊥
 past-fields n p f e = omega (arith, passed 14 n p, place-below f)

@@ -5,7 +5,8 @@ use Prim.Native.Nat.{ℕ, _<_}
 use native.Mathlib.Omega.{arith}
 use lib.IntN.{ℤ}
 use lib.ListN.{length}
-use Rattle.fields.specs.Fields.{Field, latitude, longitude, uncertainty, altitudeUncertainty, altitude, innerRadius, offset, included, orientation, bearing, horizontalSpeed, verticalSpeed, uncertaintySpeed, confidence, QuantityOf}
+use Rattle.fields.specs.Fields.{Field, QuantityOf}
+use Rattle.fields.specs.Fields as field
 use Rattle.text.specs.LineFields.{fieldsOf}
 use Rattle.text.specs.declared.said.SaidLine.{SaidLine}
 use Rattle.text.specs.declared.said.SaidLine.the-variants.{Unreadable}
@@ -19,20 +20,20 @@ use Rattle.coder.specs.Lines as lines
 use Rattle.coder.proofs.NameLaws.{verbs-apart, name-one}
 
 some-number : (f : Field) → 0 < countOf f
-some-number latitude = omega arith
-some-number longitude = omega arith
-some-number uncertainty = omega arith
-some-number altitudeUncertainty = omega arith
-some-number altitude = omega arith
-some-number innerRadius = omega arith
-some-number offset = omega arith
-some-number included = omega arith
-some-number orientation = omega arith
-some-number bearing = omega arith
-some-number horizontalSpeed = omega arith
-some-number verticalSpeed = omega arith
-some-number uncertaintySpeed = omega arith
-some-number confidence = omega arith
+some-number field.latitude = omega arith
+some-number field.longitude = omega arith
+some-number field.uncertainty = omega arith
+some-number field.altitudeUncertainty = omega arith
+some-number field.altitude = omega arith
+some-number field.innerRadius = omega arith
+some-number field.offset = omega arith
+some-number field.included = omega arith
+some-number field.orientation = omega arith
+some-number field.bearing = omega arith
+some-number field.horizontalSpeed = omega arith
+some-number field.verticalSpeed = omega arith
+some-number field.uncertaintySpeed = omega arith
+some-number field.confidence = omega arith
 
 -- as many texts as numbers
 as-many : {ts : List (List ℕ)} {zs : List ℤ} → WriteNumbers ts zs → length ts ≡ length zs

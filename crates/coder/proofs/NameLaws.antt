@@ -7,7 +7,8 @@ use native.Mathlib.Omega.{arith}
 use lib.ListN.{length, getD}
 use lib.Dec.{eqb}
 use borrow.Author.Tests.{eq-eqb}
-use Rattle.fields.specs.Fields.{Field, latitude, longitude, uncertainty, altitudeUncertainty, altitude, innerRadius, offset, included, orientation, bearing, horizontalSpeed, verticalSpeed, uncertaintySpeed, confidence}
+use Rattle.fields.specs.Fields.{Field}
+use Rattle.fields.specs.Fields as field
 use Rattle.fields.specs.Places.{placeOf}
 use Rattle.fields.proofs.PlaceLaws.{all, at-place, place-one}
 use Rattle.coder.specs.Names.{codeVerb, reportVerb, nameOf, IsVerb, Placed, PlacedIf, is, other}
@@ -34,25 +35,25 @@ unfoldable keyOf : List ℕ → ℕ
 keyOf word = 256 * length word + getD word 0 0
 
 unfoldable withKey : ℕ → List Field → Field
-withKey k [] = confidence
+withKey k [] = field.confidence
 withKey k (f ∷ fs) = cond (eqb (keyOf (nameOf f)) k) f (withKey k fs)
 
 by-key : (f : Field) → withKey (keyOf (nameOf f)) all ≡ f
 unfolding nameOf keyOf withKey
-by-key latitude = refl
-by-key longitude = refl
-by-key uncertainty = refl
-by-key altitudeUncertainty = refl
-by-key altitude = refl
-by-key innerRadius = refl
-by-key offset = refl
-by-key included = refl
-by-key orientation = refl
-by-key bearing = refl
-by-key horizontalSpeed = refl
-by-key verticalSpeed = refl
-by-key uncertaintySpeed = refl
-by-key confidence = refl
+by-key field.latitude = refl
+by-key field.longitude = refl
+by-key field.uncertainty = refl
+by-key field.altitudeUncertainty = refl
+by-key field.altitude = refl
+by-key field.innerRadius = refl
+by-key field.offset = refl
+by-key field.included = refl
+by-key field.orientation = refl
+by-key field.bearing = refl
+by-key field.horizontalSpeed = refl
+by-key field.verticalSpeed = refl
+by-key field.uncertaintySpeed = refl
+by-key field.confidence = refl
 
 pub name-one : (f g : Field) → nameOf f ≡ nameOf g → f ≡ g
 name-one f g e = sym (by-key f) ∙ ap (λ (w : List ℕ). withKey (keyOf w) all) e ∙ by-key g
@@ -85,7 +86,7 @@ module _ (word : List ℕ) where
   tail-none f fs true h = h .1
   tail-none f fs false h = h
 
-  none-at : (fs : List Field) (k : ℕ) → NoneOf word (ofLength (length word) fs) → k < length fs → word ≡ nameOf (getD fs k confidence) → ⊥
+  none-at : (fs : List Field) (k : ℕ) → NoneOf word (ofLength (length word) fs) → k < length fs → word ≡ nameOf (getD fs k field.confidence) → ⊥
   unfolding NoneOf ofLength
   none-at [] k h l e = absurd (omega arith)
   none-at (f ∷ fs) zero h l e = (rw (eq-eqb (length (nameOf f)) (length word) (ap length (sym e))) at h) .0 e
@@ -112,17 +113,17 @@ module _ (word : List ℕ) where
 
 pub no-length : (n : ℕ) → (n ≡ 6 → ⊥) → (n ≡ 7 → ⊥) → (n ≡ 8 → ⊥) → (n ≡ 9 → ⊥) → (n ≡ 10 → ⊥) → (n ≡ 11 → ⊥) → (n ≡ 12 → ⊥) → (n ≡ 14 → ⊥) → (n ≡ 16 → ⊥) → (n ≡ 17 → ⊥) → (n ≡ 20 → ⊥) → (f : Field) → n ≡ length (nameOf f) → ⊥
 unfolding nameOf
-no-length n a b c d e g h i j k l latitude z = c z
-no-length n a b c d e g h i j k l longitude z = d z
-no-length n a b c d e g h i j k l uncertainty z = g z
-no-length n a b c d e g h i j k l altitudeUncertainty z = l z
-no-length n a b c d e g h i j k l altitude z = c z
-no-length n a b c d e g h i j k l innerRadius z = h z
-no-length n a b c d e g h i j k l offset z = a z
-no-length n a b c d e g h i j k l included z = c z
-no-length n a b c d e g h i j k l orientation z = g z
-no-length n a b c d e g h i j k l bearing z = b z
-no-length n a b c d e g h i j k l horizontalSpeed z = j z
-no-length n a b c d e g h i j k l verticalSpeed z = i z
-no-length n a b c d e g h i j k l uncertaintySpeed z = k z
-no-length n a b c d e g h i j k l confidence z = e z
+no-length n a b c d e g h i j k l field.latitude z = c z
+no-length n a b c d e g h i j k l field.longitude z = d z
+no-length n a b c d e g h i j k l field.uncertainty z = g z
+no-length n a b c d e g h i j k l field.altitudeUncertainty z = l z
+no-length n a b c d e g h i j k l field.altitude z = c z
+no-length n a b c d e g h i j k l field.innerRadius z = h z
+no-length n a b c d e g h i j k l field.offset z = a z
+no-length n a b c d e g h i j k l field.included z = c z
+no-length n a b c d e g h i j k l field.orientation z = g z
+no-length n a b c d e g h i j k l field.bearing z = b z
+no-length n a b c d e g h i j k l field.horizontalSpeed z = j z
+no-length n a b c d e g h i j k l field.verticalSpeed z = i z
+no-length n a b c d e g h i j k l field.uncertaintySpeed z = k z
+no-length n a b c d e g h i j k l field.confidence z = e z

@@ -9,7 +9,8 @@ use lib.Signed.{mag}
 use lib.ListN.{length}
 use Rattle.ground.specs.declared.quantity.UncertaintySpeed.{UncertaintySpeed}
 use Rattle.ground.specs.declared.quantity.UncertaintySpeed.the-variants as uncertain
-use Rattle.fields.specs.Fields.{Field, latitude, longitude, uncertainty, altitudeUncertainty, altitude, innerRadius, offset, included, orientation, bearing, horizontalSpeed, verticalSpeed, uncertaintySpeed, confidence, CodeOf, QuantityOf}
+use Rattle.fields.specs.Fields.{Field, CodeOf, QuantityOf}
+use Rattle.fields.specs.Fields as field
 use Rattle.fields.proofs.PlaceLaws.{place-one}
 use Rattle.one_field.specs.Coding as coding
 use Rattle.one_field.proofs.OneCode.{tells-code-one}
@@ -33,20 +34,20 @@ speed-one t uncertain.Missing (uncertain.Speed y) s u = absurd (unsigned-dash u 
 speed-one t uncertain.Missing uncertain.Missing s u = refl
 
 pub quantity-one : (f : Field) (t : List ℕ) (x y : QuantityOf f) → TextSays f t x → TextSays f t y → x ≡ y
-quantity-one latitude t x y s u = λ i. record { 0 = signed-one s u i }
-quantity-one longitude t x y s u = λ i. record { 0 = signed-one s u i }
-quantity-one uncertainty t x y s u = λ i. record { 0 = unsigned-one s u i }
-quantity-one altitudeUncertainty t x y s u = λ i. record { 0 = unsigned-one s u i }
-quantity-one altitude t x y s u = λ i. record { 0 = signed-one s u i }
-quantity-one innerRadius t x y s u = λ i. record { 0 = unsigned-one s u i }
-quantity-one offset t x y s u = λ i. record { 0 = unsigned-one s u i }
-quantity-one included t x y s u = λ i. record { 0 = unsigned-one s u i }
-quantity-one orientation t x y s u = λ i. record { 0 = unsigned-one s u i }
-quantity-one bearing t x y s u = λ i. record { 0 = unsigned-one s u i }
-quantity-one horizontalSpeed t x y s u = λ i. record { 0 = unsigned-one s u i }
-quantity-one verticalSpeed t x y s u = λ i. record { 0 = signed-one s u i }
-quantity-one uncertaintySpeed t x y s u = speed-one t x y s u
-quantity-one confidence t x y s u = confidence-one t x y s u
+quantity-one field.latitude t x y s u = λ i. record { 0 = signed-one s u i }
+quantity-one field.longitude t x y s u = λ i. record { 0 = signed-one s u i }
+quantity-one field.uncertainty t x y s u = λ i. record { 0 = unsigned-one s u i }
+quantity-one field.altitudeUncertainty t x y s u = λ i. record { 0 = unsigned-one s u i }
+quantity-one field.altitude t x y s u = λ i. record { 0 = signed-one s u i }
+quantity-one field.innerRadius t x y s u = λ i. record { 0 = unsigned-one s u i }
+quantity-one field.offset t x y s u = λ i. record { 0 = unsigned-one s u i }
+quantity-one field.included t x y s u = λ i. record { 0 = unsigned-one s u i }
+quantity-one field.orientation t x y s u = λ i. record { 0 = unsigned-one s u i }
+quantity-one field.bearing t x y s u = λ i. record { 0 = unsigned-one s u i }
+quantity-one field.horizontalSpeed t x y s u = λ i. record { 0 = unsigned-one s u i }
+quantity-one field.verticalSpeed t x y s u = λ i. record { 0 = signed-one s u i }
+quantity-one field.uncertaintySpeed t x y s u = speed-one t x y s u
+quantity-one field.confidence t x y s u = confidence-one t x y s u
 
 -- ---- texts write one list of numbers, and that is one code's
 
@@ -73,36 +74,36 @@ longitude-one : {y z : ℤ} → _≡_ {A = List ℤ} (y ∷ []) (z ∷ []) → y
 longitude-one e = cc
 
 pub code-one : (f : Field) (c d : CodeOf f) → numbersOf f c ≡ numbersOf f d → c ≡ d
-code-one latitude c d e = λ i. record { 0 = sign-one (c .0) (d .0) e i; 1 = size-one (c .0) (d .0) e i }
-code-one longitude c d e = λ i. record { 0 = longitude-one e i }
-code-one uncertainty c d e = λ i. record { 0 = number-one e i }
-code-one altitudeUncertainty c d e = λ i. record { 0 = number-one e i }
-code-one altitude c d e = λ i. record { 0 = sign-one (c .0) (d .0) e i; 1 = size-one (c .0) (d .0) e i }
-code-one innerRadius c d e = λ i. record { 0 = number-one e i }
-code-one offset c d e = λ i. record { 0 = number-one e i }
-code-one included c d e = λ i. record { 0 = number-one e i }
-code-one orientation c d e = λ i. record { 0 = number-one e i }
-code-one bearing c d e = λ i. record { 0 = number-one e i }
-code-one horizontalSpeed c d e = λ i. record { 0 = number-one e i }
-code-one verticalSpeed c d e = λ i. record { 0 = sign-one (c .0) (d .0) e i; 1 = size-one (c .0) (d .0) e i }
-code-one uncertaintySpeed c d e = λ i. record { 0 = number-one e i }
-code-one confidence c d e = λ i. record { 0 = number-one e i }
+code-one field.latitude c d e = λ i. record { 0 = sign-one (c .0) (d .0) e i; 1 = size-one (c .0) (d .0) e i }
+code-one field.longitude c d e = λ i. record { 0 = longitude-one e i }
+code-one field.uncertainty c d e = λ i. record { 0 = number-one e i }
+code-one field.altitudeUncertainty c d e = λ i. record { 0 = number-one e i }
+code-one field.altitude c d e = λ i. record { 0 = sign-one (c .0) (d .0) e i; 1 = size-one (c .0) (d .0) e i }
+code-one field.innerRadius c d e = λ i. record { 0 = number-one e i }
+code-one field.offset c d e = λ i. record { 0 = number-one e i }
+code-one field.included c d e = λ i. record { 0 = number-one e i }
+code-one field.orientation c d e = λ i. record { 0 = number-one e i }
+code-one field.bearing c d e = λ i. record { 0 = number-one e i }
+code-one field.horizontalSpeed c d e = λ i. record { 0 = number-one e i }
+code-one field.verticalSpeed c d e = λ i. record { 0 = sign-one (c .0) (d .0) e i; 1 = size-one (c .0) (d .0) e i }
+code-one field.uncertaintySpeed c d e = λ i. record { 0 = number-one e i }
+code-one field.confidence c d e = λ i. record { 0 = number-one e i }
 
 pub counted : (f : Field) (c : CodeOf f) → length (numbersOf f c) ≡ countOf f
-counted latitude c = refl
-counted longitude c = refl
-counted uncertainty c = refl
-counted altitudeUncertainty c = refl
-counted altitude c = refl
-counted innerRadius c = refl
-counted offset c = refl
-counted included c = refl
-counted orientation c = refl
-counted bearing c = refl
-counted horizontalSpeed c = refl
-counted verticalSpeed c = refl
-counted uncertaintySpeed c = refl
-counted confidence c = refl
+counted field.latitude c = refl
+counted field.longitude c = refl
+counted field.uncertainty c = refl
+counted field.altitudeUncertainty c = refl
+counted field.altitude c = refl
+counted field.innerRadius c = refl
+counted field.offset c = refl
+counted field.included c = refl
+counted field.orientation c = refl
+counted field.bearing c = refl
+counted field.horizontalSpeed c = refl
+counted field.verticalSpeed c = refl
+counted field.uncertaintySpeed c = refl
+counted field.confidence c = refl
 
 -- ---- what is said
 

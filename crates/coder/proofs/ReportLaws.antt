@@ -15,7 +15,8 @@ use Rattle.ground.specs.declared.refusals.Refusal.the-variants.{OutOfRange}
 use Rattle.ground.specs.declared.signs.Parts.{Parts}
 use Rattle.ground.specs.declared.said.SaidQuantity.{SaidQuantity}
 use Rattle.ground.specs.declared.said.SaidQuantity.the-variants as quantity
-use Rattle.fields.specs.Fields.{Field, latitude, longitude, uncertainty, altitudeUncertainty, altitude, innerRadius, offset, included, orientation, bearing, horizontalSpeed, verticalSpeed, uncertaintySpeed, confidence, CodeOf}
+use Rattle.fields.specs.Fields.{Field, CodeOf}
+use Rattle.fields.specs.Fields as field
 use Rattle.one_field.specs.declared.reporting.Byte.{Byte}
 use Rattle.one_field.specs.declared.reporting.Byte.the-variants as byte
 use Rattle.one_field.specs.declared.reporting.Word.{Word}
@@ -58,23 +59,23 @@ module _ (TellsQuantity : ℕ → SaidQuantity → Type 0) (one : (n : ℕ) (a b
       (split 4294967295 n)
 
 byte-one : (k : Byte) (n : ℕ) (a b : SaidQuantity) → TellsByte k n a → TellsByte k n b → a ≡ b
-byte-one byte.Uncertainty n = tells-quantity-one uncertainty (record { 0 = n })
-byte-one byte.AltitudeUncertainty n = tells-quantity-one altitudeUncertainty (record { 0 = n })
-byte-one byte.Offset n = tells-quantity-one offset (record { 0 = n })
-byte-one byte.Included n = tells-quantity-one included (record { 0 = n })
-byte-one byte.Orientation n = tells-quantity-one orientation (record { 0 = n })
-byte-one byte.UncertaintySpeed n = tells-quantity-one uncertaintySpeed (record { 0 = n })
-byte-one byte.Confidence n = tells-quantity-one confidence (record { 0 = n })
+byte-one byte.Uncertainty n = tells-quantity-one field.uncertainty (record { 0 = n })
+byte-one byte.AltitudeUncertainty n = tells-quantity-one field.altitudeUncertainty (record { 0 = n })
+byte-one byte.Offset n = tells-quantity-one field.offset (record { 0 = n })
+byte-one byte.Included n = tells-quantity-one field.included (record { 0 = n })
+byte-one byte.Orientation n = tells-quantity-one field.orientation (record { 0 = n })
+byte-one byte.UncertaintySpeed n = tells-quantity-one field.uncertaintySpeed (record { 0 = n })
+byte-one byte.Confidence n = tells-quantity-one field.confidence (record { 0 = n })
 
 word-one : (k : Word) (n : ℕ) (a b : SaidQuantity) → TellsWord k n a → TellsWord k n b → a ≡ b
-word-one word.InnerRadius n = tells-quantity-one innerRadius (record { 0 = n })
-word-one word.Bearing n = tells-quantity-one bearing (record { 0 = n })
-word-one word.HorizontalSpeed n = tells-quantity-one horizontalSpeed (record { 0 = n })
+word-one word.InnerRadius n = tells-quantity-one field.innerRadius (record { 0 = n })
+word-one word.Bearing n = tells-quantity-one field.bearing (record { 0 = n })
+word-one word.HorizontalSpeed n = tells-quantity-one field.horizontalSpeed (record { 0 = n })
 
 signed-one : (k : Signed) (s : Bool) (n : ℕ) (a b : SaidQuantity) → TellsSigned k s n a → TellsSigned k s n b → a ≡ b
-signed-one signed.Latitude s n = tells-quantity-one latitude (record { 0 = s; 1 = n })
-signed-one signed.Altitude s n = tells-quantity-one altitude (record { 0 = s; 1 = n })
-signed-one signed.VerticalSpeed s n = tells-quantity-one verticalSpeed (record { 0 = s; 1 = n })
+signed-one signed.Latitude s n = tells-quantity-one field.latitude (record { 0 = s; 1 = n })
+signed-one signed.Altitude s n = tells-quantity-one field.altitude (record { 0 = s; 1 = n })
+signed-one signed.VerticalSpeed s n = tells-quantity-one field.verticalSpeed (record { 0 = s; 1 = n })
 
 above-signed : (k : Signed) (s : Bool) (n : ℕ) → 8388607 < n → TellsSigned k s n (quantity.Refused OutOfRange)
 above-signed signed.Latitude s n h = record { said = refused 7; promise = (refl, omega arith); told = refl }
@@ -161,14 +162,14 @@ module _ (text : List ℕ) {n : ℕ} (m : Means (numeralOf text) (pos n)) (a : S
 
 -- ---- a longitude
 
-pub longitude-outside : (text : List ℕ) {p : Parts} → numeralOf text ≡ Number p → ((z : ℤ) → Means (numeralOf text) z → FitsSigned 32 z → ⊥) → ReportsText longitude (fieldsOf text) (Refused 7)
+pub longitude-outside : (text : List ℕ) {p : Parts} → numeralOf text ≡ Number p → ((z : ℤ) → Means (numeralOf text) z → FitsSigned 32 z → ⊥) → ReportsText field.longitude (fieldsOf text) (Refused 7)
 unfolding lineOfQuantity
 longitude-outside text {p} e h =
     let m : Means (numeralOf text) (signedValue p) = record { parts = p; number = e; value = refl } in
     let l : 2147483648 ≤ mag (signedValue p) = ⊎-elim (λ (b : mag (signedValue p) < 2147483648). absurd (h (signedValue p) m (record { fits = b }))) (λ (b : 2147483648 ≤ mag (signedValue p)). b) (split (mag (signedValue p)) 2147483648) in
     reported {c = record { 0 = signedValue p }} {said = quantity.Refused OutOfRange} (one-number text m) (record { said = refused 7; promise = (refl, omega arith); told = refl }) refl
 
-pub longitude-reported : (text : List ℕ) {z : ℤ} {a : SaidQuantity} {r : SaidLine} → Means (numeralOf text) z → TellsQuantity longitude (record { 0 = z }) a → r ≡ lineOfQuantity a → ReportsText longitude (fieldsOf text) r
+pub longitude-reported : (text : List ℕ) {z : ℤ} {a : SaidQuantity} {r : SaidLine} → Means (numeralOf text) z → TellsQuantity field.longitude (record { 0 = z }) a → r ≡ lineOfQuantity a → ReportsText field.longitude (fieldsOf text) r
 longitude-reported text m t p = reported (one-number text m) t p
 
 -- ---- a code with a sign

@@ -6,7 +6,8 @@ use lib.IntN.{ℤ}
 use lib.ListN.{length}
 use Rattle.ground.specs.declared.said.SaidCode.{SaidCode}
 use Rattle.ground.specs.declared.said.SaidQuantity.{SaidQuantity}
-use Rattle.fields.specs.Fields.{Field, latitude, longitude, uncertainty, altitudeUncertainty, altitude, innerRadius, offset, included, orientation, bearing, horizontalSpeed, verticalSpeed, uncertaintySpeed, confidence, CodeOf, QuantityOf}
+use Rattle.fields.specs.Fields.{Field, CodeOf, QuantityOf}
+use Rattle.fields.specs.Fields as field
 use Rattle.one_field.specs.declared.coding.Coordinate.{Coordinate}
 use Rattle.one_field.specs.declared.coding.Coordinate.the-variants as coordinate
 use Rattle.one_field.specs.declared.coding.Unsigned.{Unsigned}
@@ -55,37 +56,37 @@ pub data ReportsAt (place : ℕ) (texts : List (List ℕ)) (r : SaidLine) : Type
 -- ---- the fields of a sort together
 
 abbrev pub coordinateField : Coordinate → Field
-coordinateField coordinate.Latitude = latitude
-coordinateField coordinate.Longitude = longitude
+coordinateField coordinate.Latitude = field.latitude
+coordinateField coordinate.Longitude = field.longitude
 
 abbrev pub byteField : Byte → Field
-byteField byte.Uncertainty = uncertainty
-byteField byte.AltitudeUncertainty = altitudeUncertainty
-byteField byte.Offset = offset
-byteField byte.Included = included
-byteField byte.Orientation = orientation
-byteField byte.UncertaintySpeed = uncertaintySpeed
-byteField byte.Confidence = confidence
+byteField byte.Uncertainty = field.uncertainty
+byteField byte.AltitudeUncertainty = field.altitudeUncertainty
+byteField byte.Offset = field.offset
+byteField byte.Included = field.included
+byteField byte.Orientation = field.orientation
+byteField byte.UncertaintySpeed = field.uncertaintySpeed
+byteField byte.Confidence = field.confidence
 
 abbrev pub wordField : Word → Field
-wordField word.InnerRadius = innerRadius
-wordField word.Bearing = bearing
-wordField word.HorizontalSpeed = horizontalSpeed
+wordField word.InnerRadius = field.innerRadius
+wordField word.Bearing = field.bearing
+wordField word.HorizontalSpeed = field.horizontalSpeed
 
 abbrev pub signedField : Signed → Field
-signedField signed.Latitude = latitude
-signedField signed.Altitude = altitude
-signedField signed.VerticalSpeed = verticalSpeed
+signedField signed.Latitude = field.latitude
+signedField signed.Altitude = field.altitude
+signedField signed.VerticalSpeed = field.verticalSpeed
 
 -- for a quantity that may be missing: one that is given
 abbrev pub CodesUnsigned : Unsigned → List ℕ → SaidLine → Type 0
-CodesUnsigned unsigned.Uncertainty text r = CodesText uncertainty (fieldsOf text) r
-CodesUnsigned unsigned.AltitudeUncertainty text r = CodesText altitudeUncertainty (fieldsOf text) r
-CodesUnsigned unsigned.InnerRadius text r = CodesText innerRadius (fieldsOf text) r
-CodesUnsigned unsigned.Offset text r = CodesText offset (fieldsOf text) r
-CodesUnsigned unsigned.Included text r = CodesText included (fieldsOf text) r
-CodesUnsigned unsigned.Orientation text r = CodesText orientation (fieldsOf text) r
-CodesUnsigned unsigned.Bearing text r = CodesText bearing (fieldsOf text) r
-CodesUnsigned unsigned.HorizontalSpeed text r = CodesText horizontalSpeed (fieldsOf text) r
-CodesUnsigned unsigned.UncertaintySpeed text r = (IsAbsent text → ⊥) → CodesText uncertaintySpeed (fieldsOf text) r
-CodesUnsigned unsigned.Confidence text r = (IsAbsent text → ⊥) → CodesText confidence (fieldsOf text) r
+CodesUnsigned unsigned.Uncertainty text r = CodesText field.uncertainty (fieldsOf text) r
+CodesUnsigned unsigned.AltitudeUncertainty text r = CodesText field.altitudeUncertainty (fieldsOf text) r
+CodesUnsigned unsigned.InnerRadius text r = CodesText field.innerRadius (fieldsOf text) r
+CodesUnsigned unsigned.Offset text r = CodesText field.offset (fieldsOf text) r
+CodesUnsigned unsigned.Included text r = CodesText field.included (fieldsOf text) r
+CodesUnsigned unsigned.Orientation text r = CodesText field.orientation (fieldsOf text) r
+CodesUnsigned unsigned.Bearing text r = CodesText field.bearing (fieldsOf text) r
+CodesUnsigned unsigned.HorizontalSpeed text r = CodesText field.horizontalSpeed (fieldsOf text) r
+CodesUnsigned unsigned.UncertaintySpeed text r = (IsAbsent text → ⊥) → CodesText field.uncertaintySpeed (fieldsOf text) r
+CodesUnsigned unsigned.Confidence text r = (IsAbsent text → ⊥) → CodesText field.confidence (fieldsOf text) r

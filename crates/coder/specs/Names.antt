@@ -3,7 +3,8 @@ use mathlib.Core.Path.{_≡_}
 use mathlib.Core.List.{List, [], _∷_}
 use Prim.Native.Nat.{ℕ}
 use Rattle.fields.specs.Places.{placeOf}
-use Rattle.fields.specs.Fields.{Field, latitude, longitude, uncertainty, altitudeUncertainty, altitude, innerRadius, offset, included, orientation, bearing, horizontalSpeed, verticalSpeed, uncertaintySpeed, confidence}
+use Rattle.fields.specs.Fields.{Field}
+use Rattle.fields.specs.Fields as field
 
 -- code
 unfoldable pub codeVerb : List ℕ
@@ -16,33 +17,33 @@ reportVerb = 114 ∷ 101 ∷ 112 ∷ 111 ∷ 114 ∷ 116 ∷ []
 -- the name of a field
 unfoldable pub nameOf : Field → List ℕ
 -- latitude
-nameOf latitude = 108 ∷ 97 ∷ 116 ∷ 105 ∷ 116 ∷ 117 ∷ 100 ∷ 101 ∷ []
+nameOf field.latitude = 108 ∷ 97 ∷ 116 ∷ 105 ∷ 116 ∷ 117 ∷ 100 ∷ 101 ∷ []
 -- longitude
-nameOf longitude = 108 ∷ 111 ∷ 110 ∷ 103 ∷ 105 ∷ 116 ∷ 117 ∷ 100 ∷ 101 ∷ []
+nameOf field.longitude = 108 ∷ 111 ∷ 110 ∷ 103 ∷ 105 ∷ 116 ∷ 117 ∷ 100 ∷ 101 ∷ []
 -- uncertainty
-nameOf uncertainty = 117 ∷ 110 ∷ 99 ∷ 101 ∷ 114 ∷ 116 ∷ 97 ∷ 105 ∷ 110 ∷ 116 ∷ 121 ∷ []
+nameOf field.uncertainty = 117 ∷ 110 ∷ 99 ∷ 101 ∷ 114 ∷ 116 ∷ 97 ∷ 105 ∷ 110 ∷ 116 ∷ 121 ∷ []
 -- altitude-uncertainty
-nameOf altitudeUncertainty = 97 ∷ 108 ∷ 116 ∷ 105 ∷ 116 ∷ 117 ∷ 100 ∷ 101 ∷ 45 ∷ 117 ∷ 110 ∷ 99 ∷ 101 ∷ 114 ∷ 116 ∷ 97 ∷ 105 ∷ 110 ∷ 116 ∷ 121 ∷ []
+nameOf field.altitudeUncertainty = 97 ∷ 108 ∷ 116 ∷ 105 ∷ 116 ∷ 117 ∷ 100 ∷ 101 ∷ 45 ∷ 117 ∷ 110 ∷ 99 ∷ 101 ∷ 114 ∷ 116 ∷ 97 ∷ 105 ∷ 110 ∷ 116 ∷ 121 ∷ []
 -- altitude
-nameOf altitude = 97 ∷ 108 ∷ 116 ∷ 105 ∷ 116 ∷ 117 ∷ 100 ∷ 101 ∷ []
+nameOf field.altitude = 97 ∷ 108 ∷ 116 ∷ 105 ∷ 116 ∷ 117 ∷ 100 ∷ 101 ∷ []
 -- inner-radius
-nameOf innerRadius = 105 ∷ 110 ∷ 110 ∷ 101 ∷ 114 ∷ 45 ∷ 114 ∷ 97 ∷ 100 ∷ 105 ∷ 117 ∷ 115 ∷ []
+nameOf field.innerRadius = 105 ∷ 110 ∷ 110 ∷ 101 ∷ 114 ∷ 45 ∷ 114 ∷ 97 ∷ 100 ∷ 105 ∷ 117 ∷ 115 ∷ []
 -- offset
-nameOf offset = 111 ∷ 102 ∷ 102 ∷ 115 ∷ 101 ∷ 116 ∷ []
+nameOf field.offset = 111 ∷ 102 ∷ 102 ∷ 115 ∷ 101 ∷ 116 ∷ []
 -- included
-nameOf included = 105 ∷ 110 ∷ 99 ∷ 108 ∷ 117 ∷ 100 ∷ 101 ∷ 100 ∷ []
+nameOf field.included = 105 ∷ 110 ∷ 99 ∷ 108 ∷ 117 ∷ 100 ∷ 101 ∷ 100 ∷ []
 -- orientation
-nameOf orientation = 111 ∷ 114 ∷ 105 ∷ 101 ∷ 110 ∷ 116 ∷ 97 ∷ 116 ∷ 105 ∷ 111 ∷ 110 ∷ []
+nameOf field.orientation = 111 ∷ 114 ∷ 105 ∷ 101 ∷ 110 ∷ 116 ∷ 97 ∷ 116 ∷ 105 ∷ 111 ∷ 110 ∷ []
 -- bearing
-nameOf bearing = 98 ∷ 101 ∷ 97 ∷ 114 ∷ 105 ∷ 110 ∷ 103 ∷ []
+nameOf field.bearing = 98 ∷ 101 ∷ 97 ∷ 114 ∷ 105 ∷ 110 ∷ 103 ∷ []
 -- horizontal-speed
-nameOf horizontalSpeed = 104 ∷ 111 ∷ 114 ∷ 105 ∷ 122 ∷ 111 ∷ 110 ∷ 116 ∷ 97 ∷ 108 ∷ 45 ∷ 115 ∷ 112 ∷ 101 ∷ 101 ∷ 100 ∷ []
+nameOf field.horizontalSpeed = 104 ∷ 111 ∷ 114 ∷ 105 ∷ 122 ∷ 111 ∷ 110 ∷ 116 ∷ 97 ∷ 108 ∷ 45 ∷ 115 ∷ 112 ∷ 101 ∷ 101 ∷ 100 ∷ []
 -- vertical-speed
-nameOf verticalSpeed = 118 ∷ 101 ∷ 114 ∷ 116 ∷ 105 ∷ 99 ∷ 97 ∷ 108 ∷ 45 ∷ 115 ∷ 112 ∷ 101 ∷ 101 ∷ 100 ∷ []
+nameOf field.verticalSpeed = 118 ∷ 101 ∷ 114 ∷ 116 ∷ 105 ∷ 99 ∷ 97 ∷ 108 ∷ 45 ∷ 115 ∷ 112 ∷ 101 ∷ 101 ∷ 100 ∷ []
 -- uncertainty-speed
-nameOf uncertaintySpeed = 117 ∷ 110 ∷ 99 ∷ 101 ∷ 114 ∷ 116 ∷ 97 ∷ 105 ∷ 110 ∷ 116 ∷ 121 ∷ 45 ∷ 115 ∷ 112 ∷ 101 ∷ 101 ∷ 100 ∷ []
+nameOf field.uncertaintySpeed = 117 ∷ 110 ∷ 99 ∷ 101 ∷ 114 ∷ 116 ∷ 97 ∷ 105 ∷ 110 ∷ 116 ∷ 121 ∷ 45 ∷ 115 ∷ 112 ∷ 101 ∷ 101 ∷ 100 ∷ []
 -- confidence
-nameOf confidence = 99 ∷ 111 ∷ 110 ∷ 102 ∷ 105 ∷ 100 ∷ 101 ∷ 110 ∷ 99 ∷ 101 ∷ []
+nameOf field.confidence = 99 ∷ 111 ∷ 110 ∷ 102 ∷ 105 ∷ 100 ∷ 101 ∷ 110 ∷ 99 ∷ 101 ∷ []
 
 -- ---- what the code takes a word for
 

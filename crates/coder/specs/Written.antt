@@ -5,7 +5,8 @@ use Prim.Native.Nat.{ℕ}
 use lib.IntN.{ℤ, pos}
 use Rattle.ground.specs.declared.quantity.UncertaintySpeed.{UncertaintySpeed}
 use Rattle.ground.specs.declared.quantity.UncertaintySpeed.the-variants as uncertain
-use Rattle.fields.specs.Fields.{Field, latitude, longitude, uncertainty, altitudeUncertainty, altitude, innerRadius, offset, included, orientation, bearing, horizontalSpeed, verticalSpeed, uncertaintySpeed, confidence, CodeOf, QuantityOf}
+use Rattle.fields.specs.Fields.{Field, CodeOf, QuantityOf}
+use Rattle.fields.specs.Fields as field
 use Rattle.text.specs.Numerals.{numeralOf}
 use Rattle.text.specs.Widths.{Means}
 use Rattle.text.specs.LineFields.{IsAbsent, SaysSigned, SaysUnsigned, SaysConfidence}
@@ -20,20 +21,20 @@ WritesUncertaintySpeed text uncertain.Missing = IsAbsent text
 -- the text writes the quantity, which fits the width in which it arrives: coordinates signed in 64 bits, altitude and vertical
 -- speed signed in 32, the others unsigned in 32
 abbrev pub TextSays : (f : Field) → List ℕ → QuantityOf f → Type 0
-TextSays latitude text x = SaysSigned 64 text (x .0)
-TextSays longitude text x = SaysSigned 64 text (x .0)
-TextSays uncertainty text x = SaysUnsigned text (x .0)
-TextSays altitudeUncertainty text x = SaysUnsigned text (x .0)
-TextSays altitude text x = SaysSigned 32 text (x .0)
-TextSays innerRadius text x = SaysUnsigned text (x .0)
-TextSays offset text x = SaysUnsigned text (x .0)
-TextSays included text x = SaysUnsigned text (x .0)
-TextSays orientation text x = SaysUnsigned text (x .0)
-TextSays bearing text x = SaysUnsigned text (x .0)
-TextSays horizontalSpeed text x = SaysUnsigned text (x .0)
-TextSays verticalSpeed text x = SaysSigned 32 text (x .0)
-TextSays uncertaintySpeed text x = WritesUncertaintySpeed text x
-TextSays confidence text x = SaysConfidence text x
+TextSays field.latitude text x = SaysSigned 64 text (x .0)
+TextSays field.longitude text x = SaysSigned 64 text (x .0)
+TextSays field.uncertainty text x = SaysUnsigned text (x .0)
+TextSays field.altitudeUncertainty text x = SaysUnsigned text (x .0)
+TextSays field.altitude text x = SaysSigned 32 text (x .0)
+TextSays field.innerRadius text x = SaysUnsigned text (x .0)
+TextSays field.offset text x = SaysUnsigned text (x .0)
+TextSays field.included text x = SaysUnsigned text (x .0)
+TextSays field.orientation text x = SaysUnsigned text (x .0)
+TextSays field.bearing text x = SaysUnsigned text (x .0)
+TextSays field.horizontalSpeed text x = SaysUnsigned text (x .0)
+TextSays field.verticalSpeed text x = SaysSigned 32 text (x .0)
+TextSays field.uncertaintySpeed text x = WritesUncertaintySpeed text x
+TextSays field.confidence text x = SaysConfidence text x
 
 -- ---- the numbers of a code
 
@@ -48,17 +49,17 @@ signedNumbers s n = pos (cond s 1 0) ∷ pos n ∷ []
 
 -- the numbers of a code: S or D and N, or N alone
 abbrev pub numbersOf : (f : Field) → CodeOf f → List ℤ
-numbersOf latitude c = signedNumbers (c .0) (c .1)
-numbersOf longitude c = c .0 ∷ []
-numbersOf uncertainty c = pos (c .0) ∷ []
-numbersOf altitudeUncertainty c = pos (c .0) ∷ []
-numbersOf altitude c = signedNumbers (c .0) (c .1)
-numbersOf innerRadius c = pos (c .0) ∷ []
-numbersOf offset c = pos (c .0) ∷ []
-numbersOf included c = pos (c .0) ∷ []
-numbersOf orientation c = pos (c .0) ∷ []
-numbersOf bearing c = pos (c .0) ∷ []
-numbersOf horizontalSpeed c = pos (c .0) ∷ []
-numbersOf verticalSpeed c = signedNumbers (c .0) (c .1)
-numbersOf uncertaintySpeed c = pos (c .0) ∷ []
-numbersOf confidence c = pos (c .0) ∷ []
+numbersOf field.latitude c = signedNumbers (c .0) (c .1)
+numbersOf field.longitude c = c .0 ∷ []
+numbersOf field.uncertainty c = pos (c .0) ∷ []
+numbersOf field.altitudeUncertainty c = pos (c .0) ∷ []
+numbersOf field.altitude c = signedNumbers (c .0) (c .1)
+numbersOf field.innerRadius c = pos (c .0) ∷ []
+numbersOf field.offset c = pos (c .0) ∷ []
+numbersOf field.included c = pos (c .0) ∷ []
+numbersOf field.orientation c = pos (c .0) ∷ []
+numbersOf field.bearing c = pos (c .0) ∷ []
+numbersOf field.horizontalSpeed c = pos (c .0) ∷ []
+numbersOf field.verticalSpeed c = signedNumbers (c .0) (c .1)
+numbersOf field.uncertaintySpeed c = pos (c .0) ∷ []
+numbersOf field.confidence c = pos (c .0) ∷ []

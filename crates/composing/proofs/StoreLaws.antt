@@ -13,27 +13,8 @@ use Rattle.ground.proofs.ListLaws.{sets-append}
 use Rattle.layout.specs.declared.shape.Kind.{Kind}
 use Rattle.layout.specs.declared.shape.Kind.the-variants.{Nothing, Point, Circle, Ellipse, Polygon, AltitudePoint, AltitudeEllipsoid, Arc}
 use Rattle.layout.specs.declared.shape.Shape.{Shape}
-use Rattle.layout.specs.Layout.{
-  MessageField,
-  count,
-  south,
-  latitude,
-  longitude,
-  depth,
-  altitude,
-  uncertainty,
-  semiMajor,
-  semiMinor,
-  orientation,
-  altitudeUncertainty,
-  confidence,
-  innerRadius,
-  offset,
-  included,
-  Row,
-  shapeRows,
-  typeOf,
-}
+use Rattle.layout.specs.Layout.{MessageField, Row, shapeRows, typeOf}
+use Rattle.layout.specs.Layout as layout
 use Rattle.layout.specs.Rows.{lengthOf, message}
 use Rattle.layout.specs.Demands.{TypeKnown, InFields}
 use Rattle.layout.specs.Shapes.{rowsOf, valueOf, zeroLatitude, zeroLongitude}
@@ -87,13 +68,13 @@ module _ (x : Shape) where
 
   starts : (k : Kind) → (k ≡ Polygon → ⊥) → TypeKnown (shapeRows k (x .count)) → Fields k → Position (valueOf x) 0
   starts Nothing o l h = absurd (omega arith)
-  starts Point o l h = record { sign = h .each (south 0); size = h .each (latitude 0); turn = h .each (longitude 0) }
-  starts Circle o l h = record { sign = h .each (south 0); size = h .each (latitude 0); turn = h .each (longitude 0) }
-  starts Ellipse o l h = record { sign = h .each (south 0); size = h .each (latitude 0); turn = h .each (longitude 0) }
+  starts Point o l h = record { sign = h .each (layout.south 0); size = h .each (layout.latitude 0); turn = h .each (layout.longitude 0) }
+  starts Circle o l h = record { sign = h .each (layout.south 0); size = h .each (layout.latitude 0); turn = h .each (layout.longitude 0) }
+  starts Ellipse o l h = record { sign = h .each (layout.south 0); size = h .each (layout.latitude 0); turn = h .each (layout.longitude 0) }
   starts Polygon o l h = absurd (o refl)
-  starts AltitudePoint o l h = record { sign = h .each (south 0); size = h .each (latitude 0); turn = h .each (longitude 0) }
-  starts AltitudeEllipsoid o l h = record { sign = h .each (south 0); size = h .each (latitude 0); turn = h .each (longitude 0) }
-  starts Arc o l h = record { sign = h .each (south 0); size = h .each (latitude 0); turn = h .each (longitude 0) }
+  starts AltitudePoint o l h = record { sign = h .each (layout.south 0); size = h .each (layout.latitude 0); turn = h .each (layout.longitude 0) }
+  starts AltitudeEllipsoid o l h = record { sign = h .each (layout.south 0); size = h .each (layout.latitude 0); turn = h .each (layout.longitude 0) }
+  starts Arc o l h = record { sign = h .each (layout.south 0); size = h .each (layout.latitude 0); turn = h .each (layout.longitude 0) }
 
   abbrev fixedOctets : Kind → List ℕ
   fixedOctets k = (16 * typeOf (x .kind)) ∷ (position (x .latitude) (x .longitude) ++ rest k x)
@@ -101,14 +82,14 @@ module _ (x : Shape) where
   started-message : (k : Kind) → (k ≡ Polygon → ⊥) → TypeKnown (shapeRows k (x .count)) → Fields k → Position (valueOf x) 0 → message (shapeRows k (x .count)) (valueOf x) ≡ fixedOctets k
   started-message Nothing o l h p = absurd (omega arith)
   started-message Point o l h p = point-message (valueOf x) (x .count) (type-small (x .kind)) p
-  started-message Circle o l h p = circle-message (valueOf x) (x .count) (type-small (x .kind)) p (h .each uncertainty)
-  started-message Ellipse o l h p = ellipse-message (valueOf x) (x .count) (type-small (x .kind)) p (h .each semiMajor) (h .each semiMinor) (h .each orientation) (h .each confidence)
+  started-message Circle o l h p = circle-message (valueOf x) (x .count) (type-small (x .kind)) p (h .each layout.uncertainty)
+  started-message Ellipse o l h p = ellipse-message (valueOf x) (x .count) (type-small (x .kind)) p (h .each layout.semiMajor) (h .each layout.semiMinor) (h .each layout.orientation) (h .each layout.confidence)
   started-message Polygon o l h p = absurd (o refl)
-  started-message AltitudePoint o l h p = altitude-point-message (valueOf x) (x .count) (type-small (x .kind)) p (h .each depth) (h .each altitude)
+  started-message AltitudePoint o l h p = altitude-point-message (valueOf x) (x .count) (type-small (x .kind)) p (h .each layout.depth) (h .each layout.altitude)
   started-message AltitudeEllipsoid o l h p =
-      ellipsoid-message (valueOf x) (x .count) (type-small (x .kind)) p (h .each depth) (h .each altitude) (h .each semiMajor) (h .each semiMinor) (h .each orientation) (h .each altitudeUncertainty) (h .each confidence)
+      ellipsoid-message (valueOf x) (x .count) (type-small (x .kind)) p (h .each layout.depth) (h .each layout.altitude) (h .each layout.semiMajor) (h .each layout.semiMinor) (h .each layout.orientation) (h .each layout.altitudeUncertainty) (h .each layout.confidence)
   started-message Arc o l h p =
-      arc-message (valueOf x) (x .count) (type-small (x .kind)) p (h .each innerRadius) (h .each uncertainty) (h .each offset) (h .each included) (h .each confidence)
+      arc-message (valueOf x) (x .count) (type-small (x .kind)) p (h .each layout.innerRadius) (h .each layout.uncertainty) (h .each layout.offset) (h .each layout.included) (h .each layout.confidence)
 
   module _ (room : ℕ) (s : ShapeStorable x room) where
     -- a kind with one position
@@ -130,7 +111,7 @@ module _ (x : Shape) where
       pub points-message : message (rowsOf x) (valueOf x) ≡ (16 * typeOf (x .kind) + x .count) ∷ positions (x .latitudes) (x .longitudes) (x .count)
       points-message =
           subst (λ (k : Kind). message (shapeRows k (x .count)) (valueOf x) ≡ (16 * typeOf (x .kind) + x .count) ∷ positions (x .latitudes) (x .longitudes) (x .count)) (sym e)
-          (polygon-message (valueOf x) (x .count) (type-small (x .kind)) (fields .each count) each-point ∙ ap (λ (l : List ℕ). (16 * typeOf (x .kind) + x .count) ∷ l) (points-same (x .count)))
+          (polygon-message (valueOf x) (x .count) (type-small (x .kind)) (fields .each layout.count) each-point ∙ ap (λ (l : List ℕ). (16 * typeOf (x .kind) + x .count) ∷ l) (points-same (x .count)))
         where
           each-point : (j : ℕ) → 0 < j → j ≤ x .count → Position (valueOf x) j
           each-point zero a b = absurd (omega arith)

@@ -7,7 +7,8 @@ use lib.ListN.{replicate}
 use Rattle.octets.specs.Bits.{bits}
 use Rattle.octets.specs.Codes.{signOf, fromComplement, latitudeIn, longitudeIn}
 use Rattle.layout.specs.declared.shape.Kind.the-variants.{Polygon}
-use Rattle.layout.specs.Layout.{MessageField, south, latitude, longitude, depth, altitude, uncertainty, semiMajor, semiMinor, orientation, altitudeUncertainty, confidence, innerRadius, offset, included}
+use Rattle.layout.specs.Layout.{MessageField}
+use Rattle.layout.specs.Layout as layout
 use Rattle.layout.specs.Rows.{tag, read}
 use Rattle.layout.specs.Shapes.{upto, latitudeOf, longitudeOf, zeroLatitude, zeroLongitude}
 use Rattle.layout.proofs.TidyLaws.{read-bits, read-row}
@@ -50,11 +51,11 @@ module _ (s : List ℕ) where
       rw e (λ j. record { 0 = fromComplement (point 2 i h j) })
 
   no-latitude : (i : ℕ) → n ≤ i → zeroLatitude ≡ latitudeOf value (suc i)
-  no-latitude i h = λ j. record { 0 = signOf (none (south (suc i)) (omega arith) (λ m. omega arith) j); 1 = none (latitude (suc i)) (omega arith) (λ m. omega arith) j }
+  no-latitude i h = λ j. record { 0 = signOf (none (layout.south (suc i)) (omega arith) (λ m. omega arith) j); 1 = none (layout.latitude (suc i)) (omega arith) (λ m. omega arith) j }
 
   no-longitude : (i : ℕ) → n ≤ i → zeroLongitude ≡ longitudeOf value (suc i)
   unfolding fromComplement
-  no-longitude i h = λ j. record { 0 = fromComplement (none (longitude (suc i)) (omega arith) (λ m. omega arith) j) }
+  no-longitude i h = λ j. record { 0 = fromComplement (none (layout.longitude (suc i)) (omega arith) (λ m. omega arith) j) }
 
   fifteen : {A : Type 0} (f g : ℕ → A) (z : A) → n ≤ 15 → ((i : ℕ) → i < n → f i ≡ g i) → ((i : ℕ) → n ≤ i → z ≡ g i) → upto n f ++ replicate (15 - n) z ≡ upto 15 g
   fifteen f g z h same pad =
@@ -65,18 +66,18 @@ module _ (s : List ℕ) where
   unfolding fromComplement n value
   polygon-record h = λ j. record {
     kind = Polygon;
-    latitude = record { 0 = signOf (low (south 0) (omega arith) (omega arith) j); 1 = low (latitude 0) (omega arith) (omega arith) j };
-    longitude = record { 0 = fromComplement (low (longitude 0) (omega arith) (omega arith) j) };
-    altitude = record { 0 = signOf (low depth (omega arith) (omega arith) j); 1 = low altitude (omega arith) (omega arith) j };
-    uncertainty = record { 0 = low uncertainty (omega arith) (omega arith) j };
-    «semi_major» = record { 0 = low semiMajor (omega arith) (omega arith) j };
-    «semi_minor» = record { 0 = low semiMinor (omega arith) (omega arith) j };
-    orientation = record { 0 = low orientation (omega arith) (omega arith) j };
-    «altitude_uncertainty» = record { 0 = low altitudeUncertainty (omega arith) (omega arith) j };
-    confidence = record { 0 = low confidence (omega arith) (omega arith) j };
-    «inner_radius» = record { 0 = low innerRadius (omega arith) (omega arith) j };
-    offset = record { 0 = low offset (omega arith) (omega arith) j };
-    included = record { 0 = low included (omega arith) (omega arith) j };
+    latitude = record { 0 = signOf (low (layout.south 0) (omega arith) (omega arith) j); 1 = low (layout.latitude 0) (omega arith) (omega arith) j };
+    longitude = record { 0 = fromComplement (low (layout.longitude 0) (omega arith) (omega arith) j) };
+    altitude = record { 0 = signOf (low layout.depth (omega arith) (omega arith) j); 1 = low layout.altitude (omega arith) (omega arith) j };
+    uncertainty = record { 0 = low layout.uncertainty (omega arith) (omega arith) j };
+    «semi_major» = record { 0 = low layout.semiMajor (omega arith) (omega arith) j };
+    «semi_minor» = record { 0 = low layout.semiMinor (omega arith) (omega arith) j };
+    orientation = record { 0 = low layout.orientation (omega arith) (omega arith) j };
+    «altitude_uncertainty» = record { 0 = low layout.altitudeUncertainty (omega arith) (omega arith) j };
+    confidence = record { 0 = low layout.confidence (omega arith) (omega arith) j };
+    «inner_radius» = record { 0 = low layout.innerRadius (omega arith) (omega arith) j };
+    offset = record { 0 = low layout.offset (omega arith) (omega arith) j };
+    included = record { 0 = low layout.included (omega arith) (omega arith) j };
     count = bits s 4 4;
     latitudes = fifteen (λ i. latitudeIn s (8 * (1 + 6 * i))) (λ i. latitudeOf value (suc i)) zeroLatitude h latitude-of no-latitude j;
     longitudes = fifteen (λ i. longitudeIn s (8 * (4 + 6 * i))) (λ i. longitudeOf value (suc i)) zeroLongitude h longitude-of no-longitude j;

@@ -17,7 +17,8 @@ use Rattle.ground.specs.declared.said.SaidCode.the-variants as code
 use Rattle.ground.specs.declared.said.SaidQuantity.{SaidQuantity}
 use Rattle.ground.specs.declared.said.SaidQuantity.the-variants as quantity
 use Rattle.octets.specs.Codes.{bitOf, signOf}
-use Rattle.fields.specs.Fields.{Field, latitude, longitude, uncertainty, altitudeUncertainty, altitude, innerRadius, offset, included, orientation, bearing, horizontalSpeed, verticalSpeed, uncertaintySpeed, confidence, CodeOf, QuantityOf}
+use Rattle.fields.specs.Fields.{Field, CodeOf, QuantityOf}
+use Rattle.fields.specs.Fields as field
 use Rattle.fields.specs.Places.{placeOf}
 use Rattle.one_field.specs.declared.coding.Unsigned.{Unsigned}
 use Rattle.one_field.specs.declared.coding.Unsigned.the-variants as unsigned
@@ -54,20 +55,20 @@ IsConfidence z confident.Missing = z ≡ missing
 
 -- Quantities arrive signed in 64 bits for coordinates, signed in 32 for altitude and vertical speed, unsigned in 32 otherwise.
 abbrev pub QuantityArrives : (f : Field) → ℤ → QuantityOf f → Type 0
-QuantityArrives latitude z x = z ≡ x .0
-QuantityArrives longitude z x = z ≡ x .0
-QuantityArrives uncertainty z x = IsNatural z (x .0)
-QuantityArrives altitudeUncertainty z x = IsNatural z (x .0)
-QuantityArrives altitude z x = IsSigned z (x .0)
-QuantityArrives innerRadius z x = IsNatural z (x .0)
-QuantityArrives offset z x = IsNatural z (x .0)
-QuantityArrives included z x = IsNatural z (x .0)
-QuantityArrives orientation z x = IsNatural z (x .0)
-QuantityArrives bearing z x = IsNatural z (x .0)
-QuantityArrives horizontalSpeed z x = IsNatural z (x .0)
-QuantityArrives verticalSpeed z x = IsSigned z (x .0)
-QuantityArrives uncertaintySpeed z x = IsUncertaintySpeed z x
-QuantityArrives confidence z x = IsConfidence z x
+QuantityArrives field.latitude z x = z ≡ x .0
+QuantityArrives field.longitude z x = z ≡ x .0
+QuantityArrives field.uncertainty z x = IsNatural z (x .0)
+QuantityArrives field.altitudeUncertainty z x = IsNatural z (x .0)
+QuantityArrives field.altitude z x = IsSigned z (x .0)
+QuantityArrives field.innerRadius z x = IsNatural z (x .0)
+QuantityArrives field.offset z x = IsNatural z (x .0)
+QuantityArrives field.included z x = IsNatural z (x .0)
+QuantityArrives field.orientation z x = IsNatural z (x .0)
+QuantityArrives field.bearing z x = IsNatural z (x .0)
+QuantityArrives field.horizontalSpeed z x = IsNatural z (x .0)
+QuantityArrives field.verticalSpeed z x = IsSigned z (x .0)
+QuantityArrives field.uncertaintySpeed z x = IsUncertaintySpeed z x
+QuantityArrives field.confidence z x = IsConfidence z x
 
 -- the field's coder tells of the quantity in the element; 7 where none arrives
 pub data CodesElement (f : Field) (z : ℤ) (r : SaidCode) : Type 0 where
@@ -97,20 +98,20 @@ pub record IsLongitude (elements : List ℕ) (x : ℤ) : Type 0 where
   pub number : x ≡ fromBits (elementAt elements 0)
 
 abbrev pub SaysCode : (f : Field) → List ℕ → CodeOf f → Type 0
-SaysCode latitude elements c = IsSignedCode elements (c .0) (c .1)
-SaysCode longitude elements c = IsLongitude elements (c .0)
-SaysCode uncertainty elements c = IsCode elements (c .0)
-SaysCode altitudeUncertainty elements c = IsCode elements (c .0)
-SaysCode altitude elements c = IsSignedCode elements (c .0) (c .1)
-SaysCode innerRadius elements c = IsCode elements (c .0)
-SaysCode offset elements c = IsCode elements (c .0)
-SaysCode included elements c = IsCode elements (c .0)
-SaysCode orientation elements c = IsCode elements (c .0)
-SaysCode bearing elements c = IsCode elements (c .0)
-SaysCode horizontalSpeed elements c = IsCode elements (c .0)
-SaysCode verticalSpeed elements c = IsSignedCode elements (c .0) (c .1)
-SaysCode uncertaintySpeed elements c = IsCode elements (c .0)
-SaysCode confidence elements c = IsCode elements (c .0)
+SaysCode field.latitude elements c = IsSignedCode elements (c .0) (c .1)
+SaysCode field.longitude elements c = IsLongitude elements (c .0)
+SaysCode field.uncertainty elements c = IsCode elements (c .0)
+SaysCode field.altitudeUncertainty elements c = IsCode elements (c .0)
+SaysCode field.altitude elements c = IsSignedCode elements (c .0) (c .1)
+SaysCode field.innerRadius elements c = IsCode elements (c .0)
+SaysCode field.offset elements c = IsCode elements (c .0)
+SaysCode field.included elements c = IsCode elements (c .0)
+SaysCode field.orientation elements c = IsCode elements (c .0)
+SaysCode field.bearing elements c = IsCode elements (c .0)
+SaysCode field.horizontalSpeed elements c = IsCode elements (c .0)
+SaysCode field.verticalSpeed elements c = IsSignedCode elements (c .0) (c .1)
+SaysCode field.uncertaintySpeed elements c = IsCode elements (c .0)
+SaysCode field.confidence elements c = IsCode elements (c .0)
 
 -- 3 where elements are missing, 7 where they say no code of the field's type, else what the field's reporter tells
 pub data ReportsElements (f : Field) (elements : List ℕ) (r : SaidQuantity) : Type 0 where
@@ -157,33 +158,33 @@ saidQuantityElements (quantity.VerticalSpeed v) = v .0 ∷ []
 -- ---- the fields of a sort together
 
 abbrev pub CodesNatural : Unsigned → ℤ → SaidCode → Type 0
-CodesNatural unsigned.Uncertainty z r = CodesElement uncertainty z r
-CodesNatural unsigned.AltitudeUncertainty z r = CodesElement altitudeUncertainty z r
-CodesNatural unsigned.InnerRadius z r = CodesElement innerRadius z r
-CodesNatural unsigned.Offset z r = CodesElement offset z r
-CodesNatural unsigned.Included z r = CodesElement included z r
-CodesNatural unsigned.Orientation z r = CodesElement orientation z r
-CodesNatural unsigned.Bearing z r = CodesElement bearing z r
-CodesNatural unsigned.HorizontalSpeed z r = CodesElement horizontalSpeed z r
+CodesNatural unsigned.Uncertainty z r = CodesElement field.uncertainty z r
+CodesNatural unsigned.AltitudeUncertainty z r = CodesElement field.altitudeUncertainty z r
+CodesNatural unsigned.InnerRadius z r = CodesElement field.innerRadius z r
+CodesNatural unsigned.Offset z r = CodesElement field.offset z r
+CodesNatural unsigned.Included z r = CodesElement field.included z r
+CodesNatural unsigned.Orientation z r = CodesElement field.orientation z r
+CodesNatural unsigned.Bearing z r = CodesElement field.bearing z r
+CodesNatural unsigned.HorizontalSpeed z r = CodesElement field.horizontalSpeed z r
 -- one that is given
-CodesNatural unsigned.UncertaintySpeed z r = (z ≡ missing → ⊥) → CodesElement uncertaintySpeed z r
-CodesNatural unsigned.Confidence z r = (z ≡ missing → ⊥) → CodesElement confidence z r
+CodesNatural unsigned.UncertaintySpeed z r = (z ≡ missing → ⊥) → CodesElement field.uncertaintySpeed z r
+CodesNatural unsigned.Confidence z r = (z ≡ missing → ⊥) → CodesElement field.confidence z r
 
 abbrev pub ReportsByte : Byte → List ℕ → SaidQuantity → Type 0
-ReportsByte byte.Uncertainty elements r = ReportsElements uncertainty elements r
-ReportsByte byte.AltitudeUncertainty elements r = ReportsElements altitudeUncertainty elements r
-ReportsByte byte.Offset elements r = ReportsElements offset elements r
-ReportsByte byte.Included elements r = ReportsElements included elements r
-ReportsByte byte.Orientation elements r = ReportsElements orientation elements r
-ReportsByte byte.UncertaintySpeed elements r = ReportsElements uncertaintySpeed elements r
-ReportsByte byte.Confidence elements r = ReportsElements confidence elements r
+ReportsByte byte.Uncertainty elements r = ReportsElements field.uncertainty elements r
+ReportsByte byte.AltitudeUncertainty elements r = ReportsElements field.altitudeUncertainty elements r
+ReportsByte byte.Offset elements r = ReportsElements field.offset elements r
+ReportsByte byte.Included elements r = ReportsElements field.included elements r
+ReportsByte byte.Orientation elements r = ReportsElements field.orientation elements r
+ReportsByte byte.UncertaintySpeed elements r = ReportsElements field.uncertaintySpeed elements r
+ReportsByte byte.Confidence elements r = ReportsElements field.confidence elements r
 
 abbrev pub ReportsWord : Word → List ℕ → SaidQuantity → Type 0
-ReportsWord word.InnerRadius elements r = ReportsElements innerRadius elements r
-ReportsWord word.Bearing elements r = ReportsElements bearing elements r
-ReportsWord word.HorizontalSpeed elements r = ReportsElements horizontalSpeed elements r
+ReportsWord word.InnerRadius elements r = ReportsElements field.innerRadius elements r
+ReportsWord word.Bearing elements r = ReportsElements field.bearing elements r
+ReportsWord word.HorizontalSpeed elements r = ReportsElements field.horizontalSpeed elements r
 
 abbrev pub ReportsSigned : Signed → List ℕ → SaidQuantity → Type 0
-ReportsSigned signed.Latitude elements r = ReportsElements latitude elements r
-ReportsSigned signed.Altitude elements r = ReportsElements altitude elements r
-ReportsSigned signed.VerticalSpeed elements r = ReportsElements verticalSpeed elements r
+ReportsSigned signed.Latitude elements r = ReportsElements field.latitude elements r
+ReportsSigned signed.Altitude elements r = ReportsElements field.altitude elements r
+ReportsSigned signed.VerticalSpeed elements r = ReportsElements field.verticalSpeed elements r

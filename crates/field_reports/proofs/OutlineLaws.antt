@@ -17,30 +17,8 @@ use Rattle.layout.specs.Shapes.{rowsOf, zeroLatitude, zeroLongitude}
 use Rattle.layout.proofs.KindLaws.{pointsOf, fixed-width}
 use Rattle.layout.proofs.WidthLaws.{shapeWidest, shape-width}
 use Rattle.quantities.specs.declared.shape.ShapeQuantities.{ShapeQuantities}
-use Rattle.quantities.specs.Places.{
-  Place,
-  latitude,
-  longitude,
-  altitude,
-  uncertainty,
-  semiMajor,
-  semiMinor,
-  orientation,
-  altitudeUncertainty,
-  confidence,
-  innerRadius,
-  offset,
-  included,
-  bearing,
-  horizontalSpeed,
-  verticalSpeed,
-  speedUncertainty,
-  verticalUncertainty,
-  fieldOf,
-  rowOf,
-  Unused,
-  zeroQuantity,
-}
+use Rattle.quantities.specs.Places.{Place, fieldOf, rowOf, Unused, zeroQuantity}
+use Rattle.quantities.specs.Places as place
 use Rattle.quantities.specs.Shapes.{codeAt, quantityAt, TakesShape, QuantitiesOf}
 use Rattle.quantities.proofs.HeldLaws.{taken, shape-held}
 use Rattle.quantities.proofs.ZeroLaws.{hasZero, reports-zero}
@@ -114,17 +92,17 @@ outline-of x q h = record {
 module _ (x : Shape) (t : TakesShape x) where
   pub outline-held : OutlineHeld x
   outline-held = record {
-    latitudes = shape-held x t (latitude 0);
-    longitudes = shape-held x t (longitude 0);
-    altitudes = shape-held x t altitude;
-    uncertainties = shape-held x t uncertainty;
-    semi-majors = shape-held x t semiMajor;
-    semi-minors = shape-held x t semiMinor;
-    orientations = shape-held x t orientation;
-    altitude-uncertainties = shape-held x t altitudeUncertainty;
-    confidences = shape-held x t confidence;
-    offsets = shape-held x t offset;
-    includeds = shape-held x t included;
+    latitudes = shape-held x t (place.latitude 0);
+    longitudes = shape-held x t (place.longitude 0);
+    altitudes = shape-held x t place.altitude;
+    uncertainties = shape-held x t place.uncertainty;
+    semi-majors = shape-held x t place.semiMajor;
+    semi-minors = shape-held x t place.semiMinor;
+    orientations = shape-held x t place.orientation;
+    altitude-uncertainties = shape-held x t place.altitudeUncertainty;
+    confidences = shape-held x t place.confidence;
+    offsets = shape-held x t place.offset;
+    includeds = shape-held x t place.included;
   }
 
   pub pointless-held : OutlineHeld (pointless x)
@@ -157,49 +135,49 @@ module _ (x : Shape) (t : TakesShape x) where
     included-width = fixed-width (x .kind) (x .count) layout.included (omega arith) (omega arith)
 
     used : (p : Place) → Used (rowsOf x) (rowOf p) → Reporting (fieldOf p) (codeAt x p) (done (quantityAt q p))
-    used (latitude zero) u = outline .latitudes
-    used (latitude (suc i)) u = let l = used-point (x .kind) (x .count) i (layout.latitude (suc i)) (omega arith) u in lats .each i (omega (arith, counted))
-    used (longitude zero) u = outline .longitudes
-    used (longitude (suc i)) u = let l = used-point (x .kind) (x .count) i (layout.longitude (suc i)) (omega arith) u in lons .each i (omega (arith, counted))
-    used altitude u = outline .altitudes
-    used uncertainty u = outline .uncertainties
-    used semiMajor u = outline .semi-majors
-    used semiMinor u = outline .semi-minors
-    used orientation u = outline .orientations
-    used altitudeUncertainty u = outline .altitude-uncertainties
-    used confidence u = outline .confidences
-    used innerRadius u = outline .inner-radii
-    used offset u = outline .offsets
-    used included u = outline .includeds .used (rw included-width at u)
-    used bearing u = absurd (no-row layout.bearing refl u)
-    used horizontalSpeed u = absurd (no-row layout.horizontalSpeed refl u)
-    used verticalSpeed u = absurd (no-row layout.verticalSpeed refl u)
-    used speedUncertainty u = absurd (no-row layout.speedUncertainty refl u)
-    used verticalUncertainty u = absurd (no-row layout.verticalUncertainty refl u)
+    used (place.latitude zero) u = outline .latitudes
+    used (place.latitude (suc i)) u = let l = used-point (x .kind) (x .count) i (layout.latitude (suc i)) (omega arith) u in lats .each i (omega (arith, counted))
+    used (place.longitude zero) u = outline .longitudes
+    used (place.longitude (suc i)) u = let l = used-point (x .kind) (x .count) i (layout.longitude (suc i)) (omega arith) u in lons .each i (omega (arith, counted))
+    used place.altitude u = outline .altitudes
+    used place.uncertainty u = outline .uncertainties
+    used place.semiMajor u = outline .semi-majors
+    used place.semiMinor u = outline .semi-minors
+    used place.orientation u = outline .orientations
+    used place.altitudeUncertainty u = outline .altitude-uncertainties
+    used place.confidence u = outline .confidences
+    used place.innerRadius u = outline .inner-radii
+    used place.offset u = outline .offsets
+    used place.included u = outline .includeds .used (rw included-width at u)
+    used place.bearing u = absurd (no-row layout.bearing refl u)
+    used place.horizontalSpeed u = absurd (no-row layout.horizontalSpeed refl u)
+    used place.verticalSpeed u = absurd (no-row layout.verticalSpeed refl u)
+    used place.speedUncertainty u = absurd (no-row layout.speedUncertainty refl u)
+    used place.verticalUncertainty u = absurd (no-row layout.verticalUncertainty refl u)
 
     zero-at : (p : Place) → hasZero (fieldOf p) ≡ true → Unused (rowsOf x) (rowOf p) → Reporting (fieldOf p) (codeAt x p) (done (quantityAt q p)) → quantityAt q p ≡ zeroQuantity (fieldOf p)
     zero-at p h e r = reports-zero (fieldOf p) (codeAt x p) (quantityAt q p) h (unused-code x (taken x t .fields) p e) r
 
     unused : (p : Place) → Unused (rowsOf x) (rowOf p) → quantityAt q p ≡ zeroQuantity (fieldOf p)
-    unused (latitude zero) e = zero-at (latitude 0) refl e (outline .latitudes)
-    unused (latitude (suc i)) e = let l = unused-point (x .kind) (x .count) 1 i (omega arith) e in lats .rest i (omega (arith, counted))
-    unused (longitude zero) e = zero-at (longitude 0) refl e (outline .longitudes)
-    unused (longitude (suc i)) e = let l = unused-point (x .kind) (x .count) 2 i (omega arith) e in lons .rest i (omega (arith, counted))
-    unused altitude e = zero-at altitude refl e (outline .altitudes)
-    unused uncertainty e = zero-at uncertainty refl e (outline .uncertainties)
-    unused semiMajor e = zero-at semiMajor refl e (outline .semi-majors)
-    unused semiMinor e = zero-at semiMinor refl e (outline .semi-minors)
-    unused orientation e = zero-at orientation refl e (outline .orientations)
-    unused altitudeUncertainty e = zero-at altitudeUncertainty refl e (outline .altitude-uncertainties)
-    unused confidence e = zero-at confidence refl e (outline .confidences)
-    unused innerRadius e = zero-at innerRadius refl e (outline .inner-radii)
-    unused offset e = zero-at offset refl e (outline .offsets)
-    unused included e = outline .includeds .unused (sym included-width ∙ e)
-    unused bearing e = refl
-    unused horizontalSpeed e = refl
-    unused verticalSpeed e = refl
-    unused speedUncertainty e = refl
-    unused verticalUncertainty e = refl
+    unused (place.latitude zero) e = zero-at (place.latitude 0) refl e (outline .latitudes)
+    unused (place.latitude (suc i)) e = let l = unused-point (x .kind) (x .count) 1 i (omega arith) e in lats .rest i (omega (arith, counted))
+    unused (place.longitude zero) e = zero-at (place.longitude 0) refl e (outline .longitudes)
+    unused (place.longitude (suc i)) e = let l = unused-point (x .kind) (x .count) 2 i (omega arith) e in lons .rest i (omega (arith, counted))
+    unused place.altitude e = zero-at place.altitude refl e (outline .altitudes)
+    unused place.uncertainty e = zero-at place.uncertainty refl e (outline .uncertainties)
+    unused place.semiMajor e = zero-at place.semiMajor refl e (outline .semi-majors)
+    unused place.semiMinor e = zero-at place.semiMinor refl e (outline .semi-minors)
+    unused place.orientation e = zero-at place.orientation refl e (outline .orientations)
+    unused place.altitudeUncertainty e = zero-at place.altitudeUncertainty refl e (outline .altitude-uncertainties)
+    unused place.confidence e = zero-at place.confidence refl e (outline .confidences)
+    unused place.innerRadius e = zero-at place.innerRadius refl e (outline .inner-radii)
+    unused place.offset e = zero-at place.offset refl e (outline .offsets)
+    unused place.included e = outline .includeds .unused (sym included-width ∙ e)
+    unused place.bearing e = refl
+    unused place.horizontalSpeed e = refl
+    unused place.verticalSpeed e = refl
+    unused place.speedUncertainty e = refl
+    unused place.verticalUncertainty e = refl
 
     pub all-reported : QuantitiesOf x (withPoints q₀ latitudes′ longitudes′)
     all-reported = record { kinds = outline .kinds; counts = outline .counts; all-latitudes = lats .fifteen; all-longitudes = lons .fifteen; each = record { used = used; unused = unused } }

@@ -22,23 +22,8 @@ use Rattle.layout.specs.Layout.{shapeRows}
 use Rattle.layout.specs.Layout as layout
 use Rattle.layout.specs.Rows.{widthOf}
 use Rattle.quantities.specs.declared.shape.ShapeQuantities.{ShapeQuantities}
-use Rattle.quantities.specs.Places.{
-  Place,
-  latitude,
-  longitude,
-  altitude,
-  uncertainty,
-  semiMajor,
-  semiMinor,
-  orientation,
-  altitudeUncertainty,
-  confidence,
-  innerRadius,
-  offset,
-  included,
-  fieldOf,
-  zeroQuantity,
-}
+use Rattle.quantities.specs.Places.{Place, fieldOf, zeroQuantity}
+use Rattle.quantities.specs.Places as place
 use Rattle.quantities.specs.Shapes.{codeAt, zeroDegrees, TakesShape, QuantitiesOf}
 use Rattle.quantities.proofs.HeldLaws.{shape-held, count-held}
 use Rattle.field_reports.specs.Outlines.{IncludedReported, OutlineReported}
@@ -83,7 +68,7 @@ module _ (x : Shape) (t : TakesShape x) where
   told p = quantity-reported (fieldOf p) (codeAt x p) (shape-held x t p)
 
   angle-of : Angle (x .kind) (x .included)
-  angle-of = some-angle (x .kind) (x .included) (shape-held x t included)
+  angle-of = some-angle (x .kind) (x .included) (shape-held x t place.included)
 
   abbrev outline : ShapeQuantities
   outline = record {
@@ -109,17 +94,17 @@ module _ (x : Shape) (t : TakesShape x) where
   outlined = record {
     kinds = refl;
     counts = refl;
-    latitudes = told (latitude 0);
-    longitudes = told (longitude 0);
-    altitudes = told altitude;
-    uncertainties = told uncertainty;
-    semi-majors = told semiMajor;
-    semi-minors = told semiMinor;
-    orientations = told orientation;
-    altitude-uncertainties = told altitudeUncertainty;
-    confidences = told confidence;
-    inner-radii = told innerRadius;
-    offsets = told offset;
+    latitudes = told (place.latitude 0);
+    longitudes = told (place.longitude 0);
+    altitudes = told place.altitude;
+    uncertainties = told place.uncertainty;
+    semi-majors = told place.semiMajor;
+    semi-minors = told place.semiMinor;
+    orientations = told place.orientation;
+    altitude-uncertainties = told place.altitudeUncertainty;
+    confidences = told place.confidence;
+    inner-radii = told place.innerRadius;
+    offsets = told place.offset;
     includeds = angle-of .reported;
     no-latitudes = refl;
     no-longitudes = refl;
@@ -127,6 +112,6 @@ module _ (x : Shape) (t : TakesShape x) where
 
   pub some : Some x
   some =
-      let lats = points _ (λ i. quantityOf field.latitude (codeAt x (latitude (suc i)))) (x .count) (count-held x t) (λ i h. told (latitude (suc i))) in
-      let lons = points _ (λ i. quantityOf field.longitude (codeAt x (longitude (suc i)))) (x .count) (count-held x t) (λ i h. told (longitude (suc i))) in
+      let lats = points _ (λ i. quantityOf field.latitude (codeAt x (place.latitude (suc i)))) (x .count) (count-held x t) (λ i h. told (place.latitude (suc i))) in
+      let lons = points _ (λ i. quantityOf field.longitude (codeAt x (place.longitude (suc i)))) (x .count) (count-held x t) (λ i h. told (place.longitude (suc i))) in
       record { quantities = withPoints outline (lats .list) (lons .list); promise = all-reported x t outline outlined (lats .filled) (lons .filled) }

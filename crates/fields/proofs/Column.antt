@@ -16,17 +16,18 @@ use Rattle.ground.specs.declared.quantity.Millidegrees.{Millidegrees}
 use Rattle.ground.specs.declared.quantity.Millimetres.{Millimetres}
 use Rattle.ground.specs.declared.quantity.SignedMillimetres.{SignedMillimetres}
 use Rattle.coordinates.specs.Longitude.{LongitudeSet}
-use Rattle.fields.specs.Fields.{Field, latitude, longitude, uncertainty, altitudeUncertainty, altitude, innerRadius, offset, included, orientation, bearing, horizontalSpeed, verticalSpeed, uncertaintySpeed, confidence, CodeOf, QuantityOf, Reporting}
+use Rattle.fields.specs.Fields.{Field, CodeOf, QuantityOf, Reporting}
+use Rattle.fields.specs.Fields as field
 use Rattle.fields.specs.Reported.{WholePart, Column}
 use Rattle.fields.specs.Quantities.{latitudeSize, quantityOf}
 use Rattle.fields.proofs.QuantityLaws.{quantity-is}
 
 -- ---- coordinates
 
-south-zero : (c : LatitudeCode) (x : Nanodegrees) → Reporting latitude c (done x) → c .0 ≡ true → c .1 ≡ 0 → x .0 ≡ negsuc 0
+south-zero : (c : LatitudeCode) (x : Nanodegrees) → Reporting field.latitude c (done x) → c .0 ≡ true → c .1 ≡ 0 → x .0 ≡ negsuc 0
 unfolding quantityOf
 south-zero c x p e z =
-    ap (λ (q : Nanodegrees). q .0) (quantity-is latitude c x (p .member .size .bits) p) ∙ (λ i. signed (e i) (latitudeSize (z i)))
+    ap (λ (q : Nanodegrees). q .0) (quantity-is field.latitude c x (p .member .size .bits) p) ∙ (λ i. signed (e i) (latitudeSize (z i)))
 
 -- -180 degrees are in every set that +180 are in
 never-half : (N x : ℤ) → LowestOf (LongitudeSet N) x → x ≡ pos 180000000000 → ⊥
@@ -41,19 +42,19 @@ whole-part {covers} {last} {K} {R} p = record { covered = p .covered; below = λ
 
 pub column : (f : Field) (c : CodeOf f) (x : QuantityOf f) → Reporting f c (done x) → Column f c x
 unfolding quantityOf
-column latitude c x p = record { nearest = p; south-zero = south-zero c x p }
-column longitude c x p = record { lowest = p; never = never-half (c .0) (x .0) p }
-column uncertainty c x p = whole-part p
-column altitudeUncertainty c x p = whole-part p
-column altitude c x p = ap (λ (q : SignedMillimetres). q .0) (quantity-is altitude c x (omega (arith, p .member .size .code)) p)
-column innerRadius c x p = ap (λ (q : Millimetres). q .0) (quantity-is innerRadius c x (omega (arith, p .member .code)) p)
-column offset c x p = ap (λ (q : Millidegrees). q .0) (quantity-is offset c x (omega (arith, p .member .code)) p)
-column included c x p = ap (λ (q : Millidegrees). q .0) (quantity-is included c x (omega (arith, p .member .code)) p)
-column orientation c x p = ap (λ (q : Millidegrees). q .0) (quantity-is orientation c x (omega (arith, p .member .code)) p)
-column bearing c x p = ap (λ (q : Millidegrees). q .0) (quantity-is bearing c x (omega (arith, p .member .code)) p)
-column horizontalSpeed c x p = p .speed
-column verticalSpeed c x p = p .speed
-column uncertaintySpeed c (uncertain.Speed s) p = (p .code, le-antisymm (p .covered .within) (p .greatest (1000 * c .0) (record { within = omega arith })))
-column uncertaintySpeed c uncertain.Missing p = p
-column confidence c (confident.PerCent n) p = (omega (arith, p .itself, p .least), omega (arith, p .itself, p .most), sym (p .itself))
-column confidence c confident.Missing p = p
+column field.latitude c x p = record { nearest = p; south-zero = south-zero c x p }
+column field.longitude c x p = record { lowest = p; never = never-half (c .0) (x .0) p }
+column field.uncertainty c x p = whole-part p
+column field.altitudeUncertainty c x p = whole-part p
+column field.altitude c x p = ap (λ (q : SignedMillimetres). q .0) (quantity-is field.altitude c x (omega (arith, p .member .size .code)) p)
+column field.innerRadius c x p = ap (λ (q : Millimetres). q .0) (quantity-is field.innerRadius c x (omega (arith, p .member .code)) p)
+column field.offset c x p = ap (λ (q : Millidegrees). q .0) (quantity-is field.offset c x (omega (arith, p .member .code)) p)
+column field.included c x p = ap (λ (q : Millidegrees). q .0) (quantity-is field.included c x (omega (arith, p .member .code)) p)
+column field.orientation c x p = ap (λ (q : Millidegrees). q .0) (quantity-is field.orientation c x (omega (arith, p .member .code)) p)
+column field.bearing c x p = ap (λ (q : Millidegrees). q .0) (quantity-is field.bearing c x (omega (arith, p .member .code)) p)
+column field.horizontalSpeed c x p = p .speed
+column field.verticalSpeed c x p = p .speed
+column field.uncertaintySpeed c (uncertain.Speed s) p = (p .code, le-antisymm (p .covered .within) (p .greatest (1000 * c .0) (record { within = omega arith })))
+column field.uncertaintySpeed c uncertain.Missing p = p
+column field.confidence c (confident.PerCent n) p = (omega (arith, p .itself, p .least), omega (arith, p .itself, p .most), sym (p .itself))
+column field.confidence c confident.Missing p = p

@@ -9,7 +9,8 @@ use Rattle.ground.specs.declared.quantity.UncertaintySpeed.the-variants as unce
 use Rattle.radii.specs.Covering.{Covers}
 use Rattle.radii.proofs.CoverLaws.{covers-up, covers-next}
 use Rattle.speeds.specs.Speeds.{SpeedCovers}
-use Rattle.fields.specs.Fields.{Field, latitude, longitude, uncertainty, altitudeUncertainty, altitude, innerRadius, offset, included, orientation, bearing, horizontalSpeed, verticalSpeed, uncertaintySpeed, confidence, CodeOf, QuantityOf, Coding, Reporting}
+use Rattle.fields.specs.Fields.{Field, CodeOf, QuantityOf, Coding, Reporting}
+use Rattle.fields.specs.Fields as field
 use Rattle.fields.specs.Travels.{Travels, stays, goes}
 use Rattle.fields.proofs.SetLaws.{greatest-least, own-step}
 use Rattle.fields.proofs.OneAnswer.{coding-one}
@@ -25,21 +26,21 @@ speed-covering-rises J K s l p = record { within = omega (arith, p .within) }
 -- ---- the reported quantity is in the set of its code
 
 pub own-set : (f : Field) (c : CodeOf f) (x : QuantityOf f) → Reporting f c (done x) → Coding f x (done c)
-own-set latitude c x p = p .member
-own-set longitude c x p = p .member
-own-set uncertainty c x p = greatest-least (covering-rises 10000 11 10 (omega arith) (omega arith)) p
-own-set altitudeUncertainty c x p = greatest-least (covering-rises 45000 41 40 (omega arith) (omega arith)) p
-own-set altitude c x p = p .member
-own-set innerRadius c x p = p .member
-own-set offset c x p = p .member
-own-set included c x p = p .member
-own-set orientation c x p = p .member
-own-set bearing c x p = p .member
-own-set horizontalSpeed c x p = record { code = p .code; from = omega (arith, p .speed); below = λ l. omega (arith, p .speed) }
-own-set verticalSpeed c x p = subst⁻¹ (OfSign (c .0) (SpeedStep 255 (c .1))) (p .speed) (own-step (c .0) (c .1) (p .code))
-own-set uncertaintySpeed c (uncertain.Speed s) p = greatest-least speed-covering-rises p
-own-set uncertaintySpeed c uncertain.Missing p = p
-own-set confidence c x p = p
+own-set field.latitude c x p = p .member
+own-set field.longitude c x p = p .member
+own-set field.uncertainty c x p = greatest-least (covering-rises 10000 11 10 (omega arith) (omega arith)) p
+own-set field.altitudeUncertainty c x p = greatest-least (covering-rises 45000 41 40 (omega arith) (omega arith)) p
+own-set field.altitude c x p = p .member
+own-set field.innerRadius c x p = p .member
+own-set field.offset c x p = p .member
+own-set field.included c x p = p .member
+own-set field.orientation c x p = p .member
+own-set field.bearing c x p = p .member
+own-set field.horizontalSpeed c x p = record { code = p .code; from = omega (arith, p .speed); below = λ l. omega (arith, p .speed) }
+own-set field.verticalSpeed c x p = subst⁻¹ (OfSign (c .0) (SpeedStep 255 (c .1))) (p .speed) (own-step (c .0) (c .1) (p .code))
+own-set field.uncertaintySpeed c (uncertain.Speed s) p = greatest-least speed-covering-rises p
+own-set field.uncertaintySpeed c uncertain.Missing p = p
+own-set field.confidence c x p = p
 
 -- ---- so it is coded as that code, and every later trip ends there too
 

@@ -20,7 +20,8 @@ use Rattle.speeds.specs.Speeds.{UncertaintySpeedReporting}
 use Rattle.confidences.specs.Confidences.{ConfidenceSet}
 use Rattle.radii.proofs.CoverLaws.{covers-up}
 use Rattle.coordinates.specs.Latitude.{LatitudeStep}
-use Rattle.fields.specs.Fields.{Field, latitude, longitude, uncertainty, altitudeUncertainty, altitude, innerRadius, offset, included, orientation, bearing, horizontalSpeed, verticalSpeed, uncertaintySpeed, confidence, CodeOf, QuantityOf, Coding, Reporting}
+use Rattle.fields.specs.Fields.{Field, CodeOf, QuantityOf, Coding, Reporting}
+use Rattle.fields.specs.Fields as field
 use Rattle.fields.proofs.StepLaws.{step-one, open-one, upper-one, speed-one, latitude-one}
 use Rattle.fields.proofs.SetLaws.{least-of-one, greatest-of-one, signed-one, nearest-one, least-code-one, covered-one}
 use Rattle.fields.proofs.LongitudeLaws.{longitude-one, lowest-one, in-range}
@@ -46,35 +47,35 @@ confidence-apart c (PerCent n) p h = omega (arith, p .itself, p .most)
 confidence-apart c confident.Missing p h = omega arith
 
 pub coding-one : (f : Field) (x : QuantityOf f) (a b : Said (CodeOf f)) → Coding f x a → Coding f x b → a ≡ b
-coding-one latitude x = one-answer _ 7 _ (λ c d p q. signed-one (λ (s : Bool) (N : ℕ). record { 0 = s; 1 = N }) (LatitudeStep 23 1000000000) (latitude-one 23 1000000000) p q) (λ c p h. omega arith)
-coding-one longitude x = one-answer _ 7 _ (λ c d p q. ap (λ (N : ℤ). record { 0 = N }) (longitude-one (c .0) (d .0) (x .0) p q)) (λ c p h. omega (arith, in-range (c .0) (x .0) p))
-coding-one uncertainty x = one-answer _ 8 _ (λ c d p q. ap (λ (n : ℕ). record { 0 = n }) (least-code-one p q)) (λ c p h. h (covers-up (omega arith) 127 (p .code) (p .covered)))
-coding-one altitudeUncertainty x = one-answer _ 8 _ (λ c d p q. ap (λ (n : ℕ). record { 0 = n }) (least-code-one p q)) (λ c p h. h (covers-up (omega arith) 127 (p .code) (p .covered)))
-coding-one altitude x = one-answer _ 0 _ (λ c d p q. signed-one (λ (s : Bool) (N : ℕ). record { 0 = s; 1 = N }) (OpenStep 1000 32767) (open-one 1000 32767) p q) (λ c p h. h)
-coding-one innerRadius x = one-answer _ 0 _ (λ c d p q. ap (λ (n : ℕ). record { 0 = n }) (open-one 5000 65535 (c .0) (d .0) (x .0) p q)) (λ c p h. h)
-coding-one offset x = one-answer _ 7 _ (λ c d p q. ap (λ (n : ℕ). record { 0 = n }) (step-one 2000 179 (c .0) (d .0) (x .0) p q)) (λ c p h. omega arith)
-coding-one included x = one-answer _ 7 _ (λ c d p q. ap (λ (n : ℕ). record { 0 = n }) (upper-one 2000 179 (c .0) (d .0) (x .0) p q)) (λ c p h. not-inside h (omega arith) (omega arith))
-coding-one orientation x = one-answer _ 7 _ (λ c d p q. ap (λ (n : ℕ). record { 0 = n }) (step-one 1000 179 (c .0) (d .0) (x .0) p q)) (λ c p h. omega arith)
-coding-one bearing x = one-answer _ 7 _ (λ c d p q. ap (λ (n : ℕ). record { 0 = n }) (step-one 1000 359 (c .0) (d .0) (x .0) p q)) (λ c p h. omega arith)
-coding-one horizontalSpeed x = one-answer _ 0 _ (λ c d p q. ap (λ (n : ℕ). record { 0 = n }) (speed-one 65535 (c .0) (d .0) (x .0) p q)) (λ c p h. h)
-coding-one verticalSpeed x = one-answer _ 0 _ (λ c d p q. signed-one (λ (s : Bool) (N : ℕ). record { 0 = s; 1 = N }) (SpeedStep 255) (speed-one 255) p q) (λ c p h. h)
-coding-one uncertaintySpeed (Speed s) = one-answer _ 8 _ (λ c d p q. ap (λ (n : ℕ). record { 0 = n }) (least-code-one p q)) (λ c p h. h (record { within = omega (arith, p .covered .within) }))
-coding-one uncertaintySpeed uncertain.Missing = one-answer _ 8 _ (λ c d p q. ap (λ (n : ℕ). record { 0 = n }) (p ∙ sym q)) (λ c p h. h)
-coding-one confidence (PerCent n) = one-answer _ 7 _ (λ c d p q. ap (λ (n : ℕ). record { 0 = n }) (p .itself ∙ sym (q .itself))) (λ c p h. not-inside h (p .least) (p .most))
-coding-one confidence confident.Missing = one-answer _ 7 _ (λ c d p q. ap (λ (n : ℕ). record { 0 = n }) (p ∙ sym q)) (λ c p h. h)
+coding-one field.latitude x = one-answer _ 7 _ (λ c d p q. signed-one (λ (s : Bool) (N : ℕ). record { 0 = s; 1 = N }) (LatitudeStep 23 1000000000) (latitude-one 23 1000000000) p q) (λ c p h. omega arith)
+coding-one field.longitude x = one-answer _ 7 _ (λ c d p q. ap (λ (N : ℤ). record { 0 = N }) (longitude-one (c .0) (d .0) (x .0) p q)) (λ c p h. omega (arith, in-range (c .0) (x .0) p))
+coding-one field.uncertainty x = one-answer _ 8 _ (λ c d p q. ap (λ (n : ℕ). record { 0 = n }) (least-code-one p q)) (λ c p h. h (covers-up (omega arith) 127 (p .code) (p .covered)))
+coding-one field.altitudeUncertainty x = one-answer _ 8 _ (λ c d p q. ap (λ (n : ℕ). record { 0 = n }) (least-code-one p q)) (λ c p h. h (covers-up (omega arith) 127 (p .code) (p .covered)))
+coding-one field.altitude x = one-answer _ 0 _ (λ c d p q. signed-one (λ (s : Bool) (N : ℕ). record { 0 = s; 1 = N }) (OpenStep 1000 32767) (open-one 1000 32767) p q) (λ c p h. h)
+coding-one field.innerRadius x = one-answer _ 0 _ (λ c d p q. ap (λ (n : ℕ). record { 0 = n }) (open-one 5000 65535 (c .0) (d .0) (x .0) p q)) (λ c p h. h)
+coding-one field.offset x = one-answer _ 7 _ (λ c d p q. ap (λ (n : ℕ). record { 0 = n }) (step-one 2000 179 (c .0) (d .0) (x .0) p q)) (λ c p h. omega arith)
+coding-one field.included x = one-answer _ 7 _ (λ c d p q. ap (λ (n : ℕ). record { 0 = n }) (upper-one 2000 179 (c .0) (d .0) (x .0) p q)) (λ c p h. not-inside h (omega arith) (omega arith))
+coding-one field.orientation x = one-answer _ 7 _ (λ c d p q. ap (λ (n : ℕ). record { 0 = n }) (step-one 1000 179 (c .0) (d .0) (x .0) p q)) (λ c p h. omega arith)
+coding-one field.bearing x = one-answer _ 7 _ (λ c d p q. ap (λ (n : ℕ). record { 0 = n }) (step-one 1000 359 (c .0) (d .0) (x .0) p q)) (λ c p h. omega arith)
+coding-one field.horizontalSpeed x = one-answer _ 0 _ (λ c d p q. ap (λ (n : ℕ). record { 0 = n }) (speed-one 65535 (c .0) (d .0) (x .0) p q)) (λ c p h. h)
+coding-one field.verticalSpeed x = one-answer _ 0 _ (λ c d p q. signed-one (λ (s : Bool) (N : ℕ). record { 0 = s; 1 = N }) (SpeedStep 255) (speed-one 255) p q) (λ c p h. h)
+coding-one field.uncertaintySpeed (Speed s) = one-answer _ 8 _ (λ c d p q. ap (λ (n : ℕ). record { 0 = n }) (least-code-one p q)) (λ c p h. h (record { within = omega (arith, p .covered .within) }))
+coding-one field.uncertaintySpeed uncertain.Missing = one-answer _ 8 _ (λ c d p q. ap (λ (n : ℕ). record { 0 = n }) (p ∙ sym q)) (λ c p h. h)
+coding-one field.confidence (PerCent n) = one-answer _ 7 _ (λ c d p q. ap (λ (n : ℕ). record { 0 = n }) (p .itself ∙ sym (q .itself))) (λ c p h. not-inside h (p .least) (p .most))
+coding-one field.confidence confident.Missing = one-answer _ 7 _ (λ c d p q. ap (λ (n : ℕ). record { 0 = n }) (p ∙ sym q)) (λ c p h. h)
 
 pub reporting-one : (f : Field) (c : CodeOf f) (a b : Said (QuantityOf f)) → Reporting f c a → Reporting f c b → a ≡ b
-reporting-one latitude c = one-answer _ 7 _ (λ x y p q. ap (λ (z : ℤ). record { 0 = z }) (nearest-one p q)) (λ x p h. omega (arith, p .member .size .bits))
-reporting-one longitude c = one-answer _ 7 _ (λ x y p q. ap (λ (z : ℤ). record { 0 = z }) (lowest-one p q)) (λ x p h. omega (arith, p .member .bits))
-reporting-one uncertainty c = one-answer _ 7 _ (λ x y p q. ap (λ (n : ℕ). record { 0 = n }) (covered-one p q)) (λ x p h. omega (arith, p .code))
-reporting-one altitudeUncertainty c = one-answer _ 7 _ (λ x y p q. ap (λ (n : ℕ). record { 0 = n }) (covered-one p q)) (λ x p h. omega (arith, p .code))
-reporting-one altitude c = one-answer _ 7 _ (λ x y p q. ap (λ (z : ℤ). record { 0 = z }) (nearest-one p q)) (λ x p h. omega (arith, p .member .size .code))
-reporting-one innerRadius c = one-answer _ 7 _ (λ x y p q. ap (λ (n : ℕ). record { 0 = n }) (least-of-one p q)) (λ x p h. omega (arith, p .member .code))
-reporting-one offset c = one-answer _ 5 _ (λ x y p q. ap (λ (n : ℕ). record { 0 = n }) (least-of-one p q)) (λ x p h. omega (arith, p .member .code))
-reporting-one included c = one-answer _ 5 _ (λ x y p q. ap (λ (n : ℕ). record { 0 = n }) (greatest-of-one p q)) (λ x p h. omega (arith, p .member .code))
-reporting-one orientation c = one-answer _ 5 _ (λ x y p q. ap (λ (n : ℕ). record { 0 = n }) (least-of-one p q)) (λ x p h. omega (arith, p .member .code))
-reporting-one bearing c = one-answer _ 5 _ (λ x y p q. ap (λ (n : ℕ). record { 0 = n }) (least-of-one p q)) (λ x p h. omega (arith, p .member .code))
-reporting-one horizontalSpeed c = one-answer _ 7 _ (λ x y p q. ap (λ (n : ℕ). record { 0 = n }) (p .speed ∙ sym (q .speed))) (λ x p h. omega (arith, p .code))
-reporting-one verticalSpeed c = one-answer _ 7 _ (λ x y p q. ap (λ (z : ℤ). record { 0 = z }) (p .speed ∙ sym (q .speed))) (λ x p h. omega (arith, p .code))
-reporting-one uncertaintySpeed c = one-answer _ 7 _ (speed-reported-one c) (speed-apart c)
-reporting-one confidence c = one-answer _ 6 _ (confidence-reported-one c) (confidence-apart c)
+reporting-one field.latitude c = one-answer _ 7 _ (λ x y p q. ap (λ (z : ℤ). record { 0 = z }) (nearest-one p q)) (λ x p h. omega (arith, p .member .size .bits))
+reporting-one field.longitude c = one-answer _ 7 _ (λ x y p q. ap (λ (z : ℤ). record { 0 = z }) (lowest-one p q)) (λ x p h. omega (arith, p .member .bits))
+reporting-one field.uncertainty c = one-answer _ 7 _ (λ x y p q. ap (λ (n : ℕ). record { 0 = n }) (covered-one p q)) (λ x p h. omega (arith, p .code))
+reporting-one field.altitudeUncertainty c = one-answer _ 7 _ (λ x y p q. ap (λ (n : ℕ). record { 0 = n }) (covered-one p q)) (λ x p h. omega (arith, p .code))
+reporting-one field.altitude c = one-answer _ 7 _ (λ x y p q. ap (λ (z : ℤ). record { 0 = z }) (nearest-one p q)) (λ x p h. omega (arith, p .member .size .code))
+reporting-one field.innerRadius c = one-answer _ 7 _ (λ x y p q. ap (λ (n : ℕ). record { 0 = n }) (least-of-one p q)) (λ x p h. omega (arith, p .member .code))
+reporting-one field.offset c = one-answer _ 5 _ (λ x y p q. ap (λ (n : ℕ). record { 0 = n }) (least-of-one p q)) (λ x p h. omega (arith, p .member .code))
+reporting-one field.included c = one-answer _ 5 _ (λ x y p q. ap (λ (n : ℕ). record { 0 = n }) (greatest-of-one p q)) (λ x p h. omega (arith, p .member .code))
+reporting-one field.orientation c = one-answer _ 5 _ (λ x y p q. ap (λ (n : ℕ). record { 0 = n }) (least-of-one p q)) (λ x p h. omega (arith, p .member .code))
+reporting-one field.bearing c = one-answer _ 5 _ (λ x y p q. ap (λ (n : ℕ). record { 0 = n }) (least-of-one p q)) (λ x p h. omega (arith, p .member .code))
+reporting-one field.horizontalSpeed c = one-answer _ 7 _ (λ x y p q. ap (λ (n : ℕ). record { 0 = n }) (p .speed ∙ sym (q .speed))) (λ x p h. omega (arith, p .code))
+reporting-one field.verticalSpeed c = one-answer _ 7 _ (λ x y p q. ap (λ (z : ℤ). record { 0 = z }) (p .speed ∙ sym (q .speed))) (λ x p h. omega (arith, p .code))
+reporting-one field.uncertaintySpeed c = one-answer _ 7 _ (speed-reported-one c) (speed-apart c)
+reporting-one field.confidence c = one-answer _ 6 _ (confidence-reported-one c) (confidence-apart c)

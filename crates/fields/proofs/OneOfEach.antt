@@ -20,124 +20,125 @@ use Rattle.lengths.specs.declared.AltitudeReported.the-variants as height-repor
 use Rattle.angles.specs.declared.AngleReported.the-variants as angle-reported
 use Rattle.confidences.specs.declared.ConfidenceReported.the-variants as sure-reported
 use Rattle.ground.specs.declared.quantity.UncertaintySpeed.the-variants as uncertain
-use Rattle.fields.specs.Fields.{Field, latitude, longitude, uncertainty, altitudeUncertainty, altitude, innerRadius, offset, included, orientation, bearing, horizontalSpeed, verticalSpeed, uncertaintySpeed, confidence, CodeOf, QuantityOf, Coding, Reporting, CodedOf, saidCode, ReportedOf, saidQuantity}
+use Rattle.fields.specs.Fields.{Field, CodeOf, QuantityOf, Coding, Reporting, CodedOf, saidCode, ReportedOf, saidQuantity}
+use Rattle.fields.specs.Fields as field
 use Rattle.fields.proofs.OneAnswer.{coding-one, reporting-one}
 
 -- ---- the answer that says a thing. (One that is never refused is found from any number.)
 
 codedOf : (f : Field) → Said (CodeOf f) → CodedOf f
-codedOf latitude (done c) = latitude-coded.Code c
-codedOf latitude (refused n) = latitude-coded.Refused (refusalOf n)
-codedOf longitude (done c) = longitude-coded.Code c
-codedOf longitude (refused n) = longitude-coded.Refused (refusalOf n)
-codedOf uncertainty (done c) = uncertainty-coded.Code c
-codedOf uncertainty (refused n) = uncertainty-coded.Refused (refusalOf n)
-codedOf altitudeUncertainty (done c) = altitudeUncertainty-coded.Code c
-codedOf altitudeUncertainty (refused n) = altitudeUncertainty-coded.Refused (refusalOf n)
-codedOf altitude (done c) = c
-codedOf altitude (refused n) = record { 0 = false; 1 = 0 }
-codedOf innerRadius (done c) = c
-codedOf innerRadius (refused n) = record { 0 = 0 }
-codedOf offset (done c) = offset-coded.Code c
-codedOf offset (refused n) = offset-coded.Refused (refusalOf n)
-codedOf included (done c) = included-coded.Code c
-codedOf included (refused n) = included-coded.Refused (refusalOf n)
-codedOf orientation (done c) = orientation-coded.Code c
-codedOf orientation (refused n) = orientation-coded.Refused (refusalOf n)
-codedOf bearing (done c) = bearing-coded.Code c
-codedOf bearing (refused n) = bearing-coded.Refused (refusalOf n)
-codedOf horizontalSpeed (done c) = c
-codedOf horizontalSpeed (refused n) = record { 0 = 0 }
-codedOf verticalSpeed (done c) = c
-codedOf verticalSpeed (refused n) = record { 0 = false; 1 = 0 }
-codedOf uncertaintySpeed (done c) = uncertaintySpeed-coded.Code c
-codedOf uncertaintySpeed (refused n) = uncertaintySpeed-coded.Refused (refusalOf n)
-codedOf confidence (done c) = confidence-coded.Code c
-codedOf confidence (refused n) = confidence-coded.Refused (refusalOf n)
+codedOf field.latitude (done c) = latitude-coded.Code c
+codedOf field.latitude (refused n) = latitude-coded.Refused (refusalOf n)
+codedOf field.longitude (done c) = longitude-coded.Code c
+codedOf field.longitude (refused n) = longitude-coded.Refused (refusalOf n)
+codedOf field.uncertainty (done c) = uncertainty-coded.Code c
+codedOf field.uncertainty (refused n) = uncertainty-coded.Refused (refusalOf n)
+codedOf field.altitudeUncertainty (done c) = altitudeUncertainty-coded.Code c
+codedOf field.altitudeUncertainty (refused n) = altitudeUncertainty-coded.Refused (refusalOf n)
+codedOf field.altitude (done c) = c
+codedOf field.altitude (refused n) = record { 0 = false; 1 = 0 }
+codedOf field.innerRadius (done c) = c
+codedOf field.innerRadius (refused n) = record { 0 = 0 }
+codedOf field.offset (done c) = offset-coded.Code c
+codedOf field.offset (refused n) = offset-coded.Refused (refusalOf n)
+codedOf field.included (done c) = included-coded.Code c
+codedOf field.included (refused n) = included-coded.Refused (refusalOf n)
+codedOf field.orientation (done c) = orientation-coded.Code c
+codedOf field.orientation (refused n) = orientation-coded.Refused (refusalOf n)
+codedOf field.bearing (done c) = bearing-coded.Code c
+codedOf field.bearing (refused n) = bearing-coded.Refused (refusalOf n)
+codedOf field.horizontalSpeed (done c) = c
+codedOf field.horizontalSpeed (refused n) = record { 0 = 0 }
+codedOf field.verticalSpeed (done c) = c
+codedOf field.verticalSpeed (refused n) = record { 0 = false; 1 = 0 }
+codedOf field.uncertaintySpeed (done c) = uncertaintySpeed-coded.Code c
+codedOf field.uncertaintySpeed (refused n) = uncertaintySpeed-coded.Refused (refusalOf n)
+codedOf field.confidence (done c) = confidence-coded.Code c
+codedOf field.confidence (refused n) = confidence-coded.Refused (refusalOf n)
 
 coded-back : (f : Field) (r : CodedOf f) → codedOf f (saidCode f r) ≡ r
 unfolding codedOf
-coded-back latitude (latitude-coded.Code c) = refl
-coded-back latitude (latitude-coded.Refused why) = ap latitude-coded.Refused (refusal-back why)
-coded-back longitude (longitude-coded.Code c) = refl
-coded-back longitude (longitude-coded.Refused why) = ap longitude-coded.Refused (refusal-back why)
-coded-back uncertainty (uncertainty-coded.Code c) = refl
-coded-back uncertainty (uncertainty-coded.Refused why) = ap uncertainty-coded.Refused (refusal-back why)
-coded-back altitudeUncertainty (altitudeUncertainty-coded.Code c) = refl
-coded-back altitudeUncertainty (altitudeUncertainty-coded.Refused why) = ap altitudeUncertainty-coded.Refused (refusal-back why)
-coded-back altitude r = refl
-coded-back innerRadius r = refl
-coded-back offset (offset-coded.Code c) = refl
-coded-back offset (offset-coded.Refused why) = ap offset-coded.Refused (refusal-back why)
-coded-back included (included-coded.Code c) = refl
-coded-back included (included-coded.Refused why) = ap included-coded.Refused (refusal-back why)
-coded-back orientation (orientation-coded.Code c) = refl
-coded-back orientation (orientation-coded.Refused why) = ap orientation-coded.Refused (refusal-back why)
-coded-back bearing (bearing-coded.Code c) = refl
-coded-back bearing (bearing-coded.Refused why) = ap bearing-coded.Refused (refusal-back why)
-coded-back horizontalSpeed r = refl
-coded-back verticalSpeed r = refl
-coded-back uncertaintySpeed (uncertaintySpeed-coded.Code c) = refl
-coded-back uncertaintySpeed (uncertaintySpeed-coded.Refused why) = ap uncertaintySpeed-coded.Refused (refusal-back why)
-coded-back confidence (confidence-coded.Code c) = refl
-coded-back confidence (confidence-coded.Refused why) = ap confidence-coded.Refused (refusal-back why)
+coded-back field.latitude (latitude-coded.Code c) = refl
+coded-back field.latitude (latitude-coded.Refused why) = ap latitude-coded.Refused (refusal-back why)
+coded-back field.longitude (longitude-coded.Code c) = refl
+coded-back field.longitude (longitude-coded.Refused why) = ap longitude-coded.Refused (refusal-back why)
+coded-back field.uncertainty (uncertainty-coded.Code c) = refl
+coded-back field.uncertainty (uncertainty-coded.Refused why) = ap uncertainty-coded.Refused (refusal-back why)
+coded-back field.altitudeUncertainty (altitudeUncertainty-coded.Code c) = refl
+coded-back field.altitudeUncertainty (altitudeUncertainty-coded.Refused why) = ap altitudeUncertainty-coded.Refused (refusal-back why)
+coded-back field.altitude r = refl
+coded-back field.innerRadius r = refl
+coded-back field.offset (offset-coded.Code c) = refl
+coded-back field.offset (offset-coded.Refused why) = ap offset-coded.Refused (refusal-back why)
+coded-back field.included (included-coded.Code c) = refl
+coded-back field.included (included-coded.Refused why) = ap included-coded.Refused (refusal-back why)
+coded-back field.orientation (orientation-coded.Code c) = refl
+coded-back field.orientation (orientation-coded.Refused why) = ap orientation-coded.Refused (refusal-back why)
+coded-back field.bearing (bearing-coded.Code c) = refl
+coded-back field.bearing (bearing-coded.Refused why) = ap bearing-coded.Refused (refusal-back why)
+coded-back field.horizontalSpeed r = refl
+coded-back field.verticalSpeed r = refl
+coded-back field.uncertaintySpeed (uncertaintySpeed-coded.Code c) = refl
+coded-back field.uncertaintySpeed (uncertaintySpeed-coded.Refused why) = ap uncertaintySpeed-coded.Refused (refusal-back why)
+coded-back field.confidence (confidence-coded.Code c) = refl
+coded-back field.confidence (confidence-coded.Refused why) = ap confidence-coded.Refused (refusal-back why)
 
 quantityOf : (f : Field) → Said (QuantityOf f) → ReportedOf f
-quantityOf latitude (done x) = coordinate-reported.Coordinate x
-quantityOf latitude (refused n) = coordinate-reported.Refused (refusalOf n)
-quantityOf longitude (done x) = coordinate-reported.Coordinate x
-quantityOf longitude (refused n) = coordinate-reported.Refused (refusalOf n)
-quantityOf uncertainty (done x) = radius-reported.Radius x
-quantityOf uncertainty (refused n) = radius-reported.Refused (refusalOf n)
-quantityOf altitudeUncertainty (done x) = radius-reported.Radius x
-quantityOf altitudeUncertainty (refused n) = radius-reported.Refused (refusalOf n)
-quantityOf altitude (done x) = height-reported.Altitude x
-quantityOf altitude (refused n) = height-reported.Refused (refusalOf n)
-quantityOf innerRadius (done x) = x
-quantityOf innerRadius (refused n) = record { 0 = 0 }
-quantityOf offset (done x) = angle-reported.Angle x
-quantityOf offset (refused n) = angle-reported.Refused (refusalOf n)
-quantityOf included (done x) = angle-reported.Angle x
-quantityOf included (refused n) = angle-reported.Refused (refusalOf n)
-quantityOf orientation (done x) = angle-reported.Angle x
-quantityOf orientation (refused n) = angle-reported.Refused (refusalOf n)
-quantityOf bearing (done x) = angle-reported.Angle x
-quantityOf bearing (refused n) = angle-reported.Refused (refusalOf n)
-quantityOf horizontalSpeed (done x) = x
-quantityOf horizontalSpeed (refused n) = record { 0 = 0 }
-quantityOf verticalSpeed (done x) = x
-quantityOf verticalSpeed (refused n) = record { 0 = pos 0 }
-quantityOf uncertaintySpeed (done x) = x
-quantityOf uncertaintySpeed (refused n) = uncertain.Missing
-quantityOf confidence (done x) = sure-reported.Confidence x
-quantityOf confidence (refused n) = sure-reported.Refused (refusalOf n)
+quantityOf field.latitude (done x) = coordinate-reported.Coordinate x
+quantityOf field.latitude (refused n) = coordinate-reported.Refused (refusalOf n)
+quantityOf field.longitude (done x) = coordinate-reported.Coordinate x
+quantityOf field.longitude (refused n) = coordinate-reported.Refused (refusalOf n)
+quantityOf field.uncertainty (done x) = radius-reported.Radius x
+quantityOf field.uncertainty (refused n) = radius-reported.Refused (refusalOf n)
+quantityOf field.altitudeUncertainty (done x) = radius-reported.Radius x
+quantityOf field.altitudeUncertainty (refused n) = radius-reported.Refused (refusalOf n)
+quantityOf field.altitude (done x) = height-reported.Altitude x
+quantityOf field.altitude (refused n) = height-reported.Refused (refusalOf n)
+quantityOf field.innerRadius (done x) = x
+quantityOf field.innerRadius (refused n) = record { 0 = 0 }
+quantityOf field.offset (done x) = angle-reported.Angle x
+quantityOf field.offset (refused n) = angle-reported.Refused (refusalOf n)
+quantityOf field.included (done x) = angle-reported.Angle x
+quantityOf field.included (refused n) = angle-reported.Refused (refusalOf n)
+quantityOf field.orientation (done x) = angle-reported.Angle x
+quantityOf field.orientation (refused n) = angle-reported.Refused (refusalOf n)
+quantityOf field.bearing (done x) = angle-reported.Angle x
+quantityOf field.bearing (refused n) = angle-reported.Refused (refusalOf n)
+quantityOf field.horizontalSpeed (done x) = x
+quantityOf field.horizontalSpeed (refused n) = record { 0 = 0 }
+quantityOf field.verticalSpeed (done x) = x
+quantityOf field.verticalSpeed (refused n) = record { 0 = pos 0 }
+quantityOf field.uncertaintySpeed (done x) = x
+quantityOf field.uncertaintySpeed (refused n) = uncertain.Missing
+quantityOf field.confidence (done x) = sure-reported.Confidence x
+quantityOf field.confidence (refused n) = sure-reported.Refused (refusalOf n)
 
 quantity-back : (f : Field) (r : ReportedOf f) → quantityOf f (saidQuantity f r) ≡ r
 unfolding quantityOf
-quantity-back latitude (coordinate-reported.Coordinate x) = refl
-quantity-back latitude (coordinate-reported.Refused why) = ap coordinate-reported.Refused (refusal-back why)
-quantity-back longitude (coordinate-reported.Coordinate x) = refl
-quantity-back longitude (coordinate-reported.Refused why) = ap coordinate-reported.Refused (refusal-back why)
-quantity-back uncertainty (radius-reported.Radius x) = refl
-quantity-back uncertainty (radius-reported.Refused why) = ap radius-reported.Refused (refusal-back why)
-quantity-back altitudeUncertainty (radius-reported.Radius x) = refl
-quantity-back altitudeUncertainty (radius-reported.Refused why) = ap radius-reported.Refused (refusal-back why)
-quantity-back altitude (height-reported.Altitude x) = refl
-quantity-back altitude (height-reported.Refused why) = ap height-reported.Refused (refusal-back why)
-quantity-back innerRadius r = refl
-quantity-back offset (angle-reported.Angle x) = refl
-quantity-back offset (angle-reported.Refused why) = ap angle-reported.Refused (refusal-back why)
-quantity-back included (angle-reported.Angle x) = refl
-quantity-back included (angle-reported.Refused why) = ap angle-reported.Refused (refusal-back why)
-quantity-back orientation (angle-reported.Angle x) = refl
-quantity-back orientation (angle-reported.Refused why) = ap angle-reported.Refused (refusal-back why)
-quantity-back bearing (angle-reported.Angle x) = refl
-quantity-back bearing (angle-reported.Refused why) = ap angle-reported.Refused (refusal-back why)
-quantity-back horizontalSpeed r = refl
-quantity-back verticalSpeed r = refl
-quantity-back uncertaintySpeed r = refl
-quantity-back confidence (sure-reported.Confidence x) = refl
-quantity-back confidence (sure-reported.Refused why) = ap sure-reported.Refused (refusal-back why)
+quantity-back field.latitude (coordinate-reported.Coordinate x) = refl
+quantity-back field.latitude (coordinate-reported.Refused why) = ap coordinate-reported.Refused (refusal-back why)
+quantity-back field.longitude (coordinate-reported.Coordinate x) = refl
+quantity-back field.longitude (coordinate-reported.Refused why) = ap coordinate-reported.Refused (refusal-back why)
+quantity-back field.uncertainty (radius-reported.Radius x) = refl
+quantity-back field.uncertainty (radius-reported.Refused why) = ap radius-reported.Refused (refusal-back why)
+quantity-back field.altitudeUncertainty (radius-reported.Radius x) = refl
+quantity-back field.altitudeUncertainty (radius-reported.Refused why) = ap radius-reported.Refused (refusal-back why)
+quantity-back field.altitude (height-reported.Altitude x) = refl
+quantity-back field.altitude (height-reported.Refused why) = ap height-reported.Refused (refusal-back why)
+quantity-back field.innerRadius r = refl
+quantity-back field.offset (angle-reported.Angle x) = refl
+quantity-back field.offset (angle-reported.Refused why) = ap angle-reported.Refused (refusal-back why)
+quantity-back field.included (angle-reported.Angle x) = refl
+quantity-back field.included (angle-reported.Refused why) = ap angle-reported.Refused (refusal-back why)
+quantity-back field.orientation (angle-reported.Angle x) = refl
+quantity-back field.orientation (angle-reported.Refused why) = ap angle-reported.Refused (refusal-back why)
+quantity-back field.bearing (angle-reported.Angle x) = refl
+quantity-back field.bearing (angle-reported.Refused why) = ap angle-reported.Refused (refusal-back why)
+quantity-back field.horizontalSpeed r = refl
+quantity-back field.verticalSpeed r = refl
+quantity-back field.uncertaintySpeed r = refl
+quantity-back field.confidence (sure-reported.Confidence x) = refl
+quantity-back field.confidence (sure-reported.Refused why) = ap sure-reported.Refused (refusal-back why)
 
 -- ---- the two laws: each promise of a coder, and of a reporter, is met by one answer
 

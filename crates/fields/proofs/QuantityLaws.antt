@@ -23,7 +23,8 @@ use Rattle.coordinates.proofs.LongitudeLaws.{reported}
 use Rattle.radii.proofs.TableLaws.{is-greatest}
 use Rattle.speeds.specs.Speeds.{UncertaintySpeedReporting}
 use Rattle.confidences.specs.Confidences.{ConfidenceSet}
-use Rattle.fields.specs.Fields.{Field, latitude, longitude, uncertainty, altitudeUncertainty, altitude, innerRadius, offset, included, orientation, bearing, horizontalSpeed, verticalSpeed, uncertaintySpeed, confidence, CodeOf, QuantityOf, Reporting}
+use Rattle.fields.specs.Fields.{Field, CodeOf, QuantityOf, Reporting}
+use Rattle.fields.specs.Fields as field
 use Rattle.fields.specs.Quantities.{latitudeSize, longitudeQuantity, quantityOf, Held}
 use Rattle.fields.proofs.OneAnswer.{reporting-one}
 
@@ -51,21 +52,21 @@ confidence-by c h false e =
 
 pub quantity-reported : (f : Field) (c : CodeOf f) → Held f c → Reporting f c (done (quantityOf f c))
 unfolding quantityOf
-quantity-reported latitude c h = nearest-signed (c .0) (latitudeSize (c .1)) (least-size (c .1) h) (one-first (c .1) (latitudeSize (c .1)) refl)
-quantity-reported longitude c h = longitude-lowest (c .0) h
-quantity-reported uncertainty c h = is-greatest 10000 11 10 (omega arith) (c .0) h
-quantity-reported altitudeUncertainty c h = is-greatest 45000 41 40 (omega arith) (c .0) h
-quantity-reported altitude c h =
+quantity-reported field.latitude c h = nearest-signed (c .0) (latitudeSize (c .1)) (least-size (c .1) h) (one-first (c .1) (latitudeSize (c .1)) refl)
+quantity-reported field.longitude c h = longitude-lowest (c .0) h
+quantity-reported field.uncertainty c h = is-greatest 10000 11 10 (omega arith) (c .0) h
+quantity-reported field.altitudeUncertainty c h = is-greatest 45000 41 40 (omega arith) (c .0) h
+quantity-reported field.altitude c h =
     nearest-signed (c .0) (1000 * c .1) (record { member = record { code = omega arith; from = omega arith; below = λ l. omega arith }; least = λ y p. p .from }) (λ z. record { code = omega arith; from = omega arith; below = λ l. omega arith })
-quantity-reported innerRadius c h = record { member = record { code = omega arith; from = omega arith; below = λ l. omega arith }; least = λ y p. p .from }
-quantity-reported offset c h = record { member = record { code = omega arith; from = omega arith; below = omega arith }; least = λ y p. p .from }
-quantity-reported included c h = record { member = record { code = omega arith; above = omega arith; upto = omega arith }; greatest = λ y p. p .upto }
-quantity-reported orientation c h = record { member = record { code = omega arith; from = omega arith; below = omega arith }; least = λ y p. p .from }
-quantity-reported bearing c h = record { member = record { code = omega arith; from = omega arith; below = omega arith }; least = λ y p. p .from }
-quantity-reported horizontalSpeed c h = record { code = omega arith; speed = refl }
-quantity-reported verticalSpeed c h = record { code = omega arith; speed = refl }
-quantity-reported uncertaintySpeed c h = speed-by c h (eqb (c .0) 255) refl
-quantity-reported confidence c h = confidence-by c h (eqb (c .0) 0) refl
+quantity-reported field.innerRadius c h = record { member = record { code = omega arith; from = omega arith; below = λ l. omega arith }; least = λ y p. p .from }
+quantity-reported field.offset c h = record { member = record { code = omega arith; from = omega arith; below = omega arith }; least = λ y p. p .from }
+quantity-reported field.included c h = record { member = record { code = omega arith; above = omega arith; upto = omega arith }; greatest = λ y p. p .upto }
+quantity-reported field.orientation c h = record { member = record { code = omega arith; from = omega arith; below = omega arith }; least = λ y p. p .from }
+quantity-reported field.bearing c h = record { member = record { code = omega arith; from = omega arith; below = omega arith }; least = λ y p. p .from }
+quantity-reported field.horizontalSpeed c h = record { code = omega arith; speed = refl }
+quantity-reported field.verticalSpeed c h = record { code = omega arith; speed = refl }
+quantity-reported field.uncertaintySpeed c h = speed-by c h (eqb (c .0) 255) refl
+quantity-reported field.confidence c h = confidence-by c h (eqb (c .0) 0) refl
 
 -- so what is reported of a code that its field holds is that quantity
 pub quantity-is : (f : Field) (c : CodeOf f) (x : QuantityOf f) → Held f c → Reporting f c (done x) → x ≡ quantityOf f c

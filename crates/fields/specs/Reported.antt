@@ -10,25 +10,8 @@ use Rattle.ground.specs.declared.quantity.Confidence.the-variants as confident
 use Rattle.coordinates.specs.Latitude.{LatitudeSet}
 use Rattle.coordinates.specs.Longitude.{LongitudeSet}
 use Rattle.radii.specs.Radii.{RadiusCovers, HeightCovers}
-use Rattle.fields.specs.Fields.{
-  Field,
-  latitude,
-  longitude,
-  uncertainty,
-  altitudeUncertainty,
-  altitude,
-  innerRadius,
-  offset,
-  included,
-  orientation,
-  bearing,
-  horizontalSpeed,
-  verticalSpeed,
-  uncertaintySpeed,
-  confidence,
-  CodeOf,
-  QuantityOf,
-}
+use Rattle.fields.specs.Fields.{Field, CodeOf, QuantityOf}
+use Rattle.fields.specs.Fields as field
 
 -- the whole nanodegree of least absolute value in the set (south, N = 0: -1)
 pub record LatitudeColumn (south : Bool) (N : ℕ) (x : ℤ) : Type 0 where
@@ -46,19 +29,19 @@ pub record WholePart (covers : ℕ → ℕ → Type 0) (K R : ℕ) : Type 0 wher
   pub below : covers K (R + 1) → ⊥
 
 abbrev pub Column : (f : Field) → CodeOf f → QuantityOf f → Type 0
-Column latitude c x = LatitudeColumn (c .0) (c .1) (x .0)
-Column longitude c x = LongitudeColumn (c .0) (x .0)
-Column uncertainty c x = WholePart RadiusCovers (c .0) (x .0)
-Column altitudeUncertainty c x = WholePart HeightCovers (c .0) (x .0)
-Column altitude c x = x .0 ≡ signed (c .0) (1000 * c .1)
-Column innerRadius c x = x .0 ≡ 5000 * c .0
-Column offset c x = x .0 ≡ 2000 * c .0
-Column included c x = x .0 ≡ 2000 * (c .0 + 1)
-Column orientation c x = x .0 ≡ 1000 * c .0
-Column bearing c x = x .0 ≡ 1000 * c .0
-Column horizontalSpeed c x = x .0 ≡ 1000 * c .0
-Column verticalSpeed c x = x .0 ≡ signed (c .0) (1000 * c .1)
-Column uncertaintySpeed c (uncertain.Speed s) = (c .0 ≤ 254) × (s .0 ≡ 1000 * c .0)
-Column uncertaintySpeed c uncertain.Missing = c .0 ≡ 255
-Column confidence c (confident.PerCent p) = (1 ≤ c .0) × (c .0 ≤ 100) × (p ≡ c .0)
-Column confidence c confident.Missing = c .0 ≡ 0
+Column field.latitude c x = LatitudeColumn (c .0) (c .1) (x .0)
+Column field.longitude c x = LongitudeColumn (c .0) (x .0)
+Column field.uncertainty c x = WholePart RadiusCovers (c .0) (x .0)
+Column field.altitudeUncertainty c x = WholePart HeightCovers (c .0) (x .0)
+Column field.altitude c x = x .0 ≡ signed (c .0) (1000 * c .1)
+Column field.innerRadius c x = x .0 ≡ 5000 * c .0
+Column field.offset c x = x .0 ≡ 2000 * c .0
+Column field.included c x = x .0 ≡ 2000 * (c .0 + 1)
+Column field.orientation c x = x .0 ≡ 1000 * c .0
+Column field.bearing c x = x .0 ≡ 1000 * c .0
+Column field.horizontalSpeed c x = x .0 ≡ 1000 * c .0
+Column field.verticalSpeed c x = x .0 ≡ signed (c .0) (1000 * c .1)
+Column field.uncertaintySpeed c (uncertain.Speed s) = (c .0 ≤ 254) × (s .0 ≡ 1000 * c .0)
+Column field.uncertaintySpeed c uncertain.Missing = c .0 ≡ 255
+Column field.confidence c (confident.PerCent p) = (1 ≤ c .0) × (c .0 ≤ 100) × (p ≡ c .0)
+Column field.confidence c confident.Missing = c .0 ≡ 0

@@ -15,7 +15,8 @@ use Rattle.layout.specs.declared.shape.Kind.{Kind}
 use Rattle.layout.specs.declared.shape.Kind.the-variants.{Nothing, Point, Circle, Ellipse, Polygon, AltitudePoint, AltitudeEllipsoid, Arc}
 use Rattle.layout.specs.declared.shape.Shape.{Shape}
 use Rattle.layout.specs.declared.shape.ShapeRead.{ShapeRead}
-use Rattle.layout.specs.Layout.{MessageField, Row, count, orientation, offset, included, bearing, confidence, shapeRows}
+use Rattle.layout.specs.Layout.{MessageField, Row, shapeRows}
+use Rattle.layout.specs.Layout as layout
 use Rattle.layout.specs.Rows.{widthOf, read}
 use Rattle.layout.specs.Demands.{Used, CountSound, AnglesSound, ConfidenceSound, ReadAnswer, CodesAnswer}
 use Rattle.layout.specs.Shapes.{kindOf, kindIn, rowsIn, shapeIn, blankShape, ReadsShape}
@@ -32,25 +33,25 @@ module _ (s : List ℕ) (rows : List Row) where
   below f n (suc w) h e used = used (omega arith)
 
   abbrev Angles : Type 0
-  Angles = (read s rows orientation < 180) × (read s rows offset < 180) × (read s rows included < 180)
+  Angles = (read s rows layout.orientation < 180) × (read s rows layout.offset < 180) × (read s rows layout.included < 180)
 
   from-angles : AnglesSound rows (read s rows) → Angles
   from-angles a =
-      (below orientation 180 _ (omega arith) refl (a .orientations), below offset 180 _ (omega arith) refl (a .offsets), below included 180 _ (omega arith) refl (a .includeds))
+      (below layout.orientation 180 _ (omega arith) refl (a .orientations), below layout.offset 180 _ (omega arith) refl (a .offsets), below layout.included 180 _ (omega arith) refl (a .includeds))
 
-  codes-as : (m : ℕ) → widthOf rows bearing ≡ 0
-      → CodesAnswer (read s rows orientation) (read s rows offset) (read s rows included) (read s rows confidence) m
+  codes-as : (m : ℕ) → widthOf rows layout.bearing ≡ 0
+      → CodesAnswer (read s rows layout.orientation) (read s rows layout.offset) (read s rows layout.included) (read s rows layout.confidence) m
       → Unless (AnglesSound rows (read s rows)) 5 (Unless (ConfidenceSound rows (read s rows)) 6 Else0) m
   codes-as m none =
       unless-as (λ a. record { orientations = λ u. a .0; offsets = λ u. a .1; includeds = λ u. a .2; bearings = λ u. absurd (omega arith) }) from-angles
-      (unless-as (λ c. record { confidences = λ u. c }) (λ c. below confidence 101 _ (omega arith) refl (c .confidences)) (λ e. e))
+      (unless-as (λ c. record { confidences = λ u. c }) (λ c. below layout.confidence 101 _ (omega arith) refl (c .confidences)) (λ e. e))
 
-no-bearing : (k : Kind) (n : ℕ) → widthOf (shapeRows k n) bearing ≡ 0
+no-bearing : (k : Kind) (n : ℕ) → widthOf (shapeRows k n) layout.bearing ≡ 0
 no-bearing Nothing n = refl
 no-bearing Point n = refl
 no-bearing Circle n = refl
 no-bearing Ellipse n = refl
-no-bearing Polygon n = none-found n bearing (omega arith) (λ l. absurd (omega arith))
+no-bearing Polygon n = none-found n layout.bearing (omega arith) (λ l. absurd (omega arith))
 no-bearing AltitudePoint n = refl
 no-bearing AltitudeEllipsoid n = refl
 no-bearing Arc n = refl
@@ -58,7 +59,7 @@ no-bearing Arc n = refl
 -- ---- the whole answer, from the form's and the codes'
 
 module _ (s : List ℕ) where
-  count-read : (k : Kind) → Used (rowsFor k s) count → read s (rowsFor k s) count ≡ bits s 4 4
+  count-read : (k : Kind) → Used (rowsFor k s) layout.count → read s (rowsFor k s) layout.count ≡ bits s 4 4
   count-read Nothing u = absurd (omega arith)
   count-read Point u = absurd (omega arith)
   count-read Circle u = absurd (omega arith)

@@ -8,7 +8,8 @@ use Rattle.ground.specs.declared.refusals.Refusal.{Refusal}
 use Rattle.ground.proofs.AnswerLaws.{not-0, when-done, unless-as}
 use Rattle.layout.specs.declared.shape.Kind.{Kind}
 use Rattle.layout.specs.declared.shape.Kind.the-variants.{Nothing, Point, Circle, Ellipse, Polygon, AltitudePoint, AltitudeEllipsoid, Arc}
-use Rattle.layout.specs.Layout.{MessageField, Row, count, orientation, offset, included, bearing, confidence, shapeRows}
+use Rattle.layout.specs.Layout.{MessageField, Row, shapeRows}
+use Rattle.layout.specs.Layout as layout
 use Rattle.layout.specs.Rows.{tag, widthOf}
 use Rattle.layout.specs.Demands.{TypeKnown, CountSound, AnglesSound, ConfidenceSound, InFields, CodesAnswer}
 use Rattle.layout.proofs.PolygonLaws.{polygon-length, none-found}
@@ -23,30 +24,30 @@ module _ (rows : List Row) (value : MessageField → ℕ) where
   unused : {A : Type 0} (f : MessageField) → widthOf rows f ≡ 0 → 0 < widthOf rows f → A
   unused f e u = absurd (omega arith)
 
-  no-count : widthOf rows count ≡ 0 → CountSound rows value
-  no-count e = record { least = unused count e; most = unused count e }
+  no-count : widthOf rows layout.count ≡ 0 → CountSound rows value
+  no-count e = record { least = unused layout.count e; most = unused layout.count e }
 
-  no-angles : widthOf rows orientation ≡ 0 → widthOf rows offset ≡ 0 → widthOf rows included ≡ 0 → widthOf rows bearing ≡ 0 → AnglesSound rows value
-  no-angles a b c d = record { orientations = unused orientation a; offsets = unused offset b; includeds = unused included c; bearings = unused bearing d }
+  no-angles : widthOf rows layout.orientation ≡ 0 → widthOf rows layout.offset ≡ 0 → widthOf rows layout.included ≡ 0 → widthOf rows layout.bearing ≡ 0 → AnglesSound rows value
+  no-angles a b c d = record { orientations = unused layout.orientation a; offsets = unused layout.offset b; includeds = unused layout.included c; bearings = unused layout.bearing d }
 
-  no-confidence : widthOf rows confidence ≡ 0 → ConfidenceSound rows value
-  no-confidence e = record { confidences = unused confidence e }
+  no-confidence : widthOf rows layout.confidence ≡ 0 → ConfidenceSound rows value
+  no-confidence e = record { confidences = unused layout.confidence e }
 
   -- neither count, angle nor confidence
-  plain : TypeKnown rows → widthOf rows count ≡ 0 → widthOf rows orientation ≡ 0 → widthOf rows offset ≡ 0 → widthOf rows included ≡ 0 → widthOf rows bearing ≡ 0 → widthOf rows confidence ≡ 0 → CodesAnswerOf rows value 0
+  plain : TypeKnown rows → widthOf rows layout.count ≡ 0 → widthOf rows layout.orientation ≡ 0 → widthOf rows layout.offset ≡ 0 → widthOf rows layout.included ≡ 0 → widthOf rows layout.bearing ≡ 0 → widthOf rows layout.confidence ≡ 0 → CodesAnswerOf rows value 0
   plain l a b c d f g = met l (met (no-count a) (met (no-angles b c d f) (met (no-confidence g) refl)))
 
-  coded : (a b c m : ℕ) → TypeKnown rows → CountSound rows value → ((a < 180) × (b < 180) × (c < 180) → AnglesSound rows value) → (AnglesSound rows value → (a < 180) × (b < 180) × (c < 180)) → 0 < widthOf rows confidence
-      → CodesAnswer a b c (value confidence) m → CodesAnswerOf rows value m
+  coded : (a b c m : ℕ) → TypeKnown rows → CountSound rows value → ((a < 180) × (b < 180) × (c < 180) → AnglesSound rows value) → (AnglesSound rows value → (a < 180) × (b < 180) × (c < 180)) → 0 < widthOf rows layout.confidence
+      → CodesAnswer a b c (value layout.confidence) m → CodesAnswerOf rows value m
   coded a b c m l n to from u h =
       met l (met n (unless-as to from (unless-as (λ l. record { confidences = λ _. l }) (λ s. s .confidences u) (λ e. e)) h))
 
   -- an orientation and a confidence
-  oriented : (m : ℕ) → TypeKnown rows → widthOf rows count ≡ 0 → 0 < widthOf rows orientation → widthOf rows offset ≡ 0 → widthOf rows included ≡ 0 → widthOf rows bearing ≡ 0 → 0 < widthOf rows confidence
-      → CodesAnswer (value orientation) 0 0 (value confidence) m → CodesAnswerOf rows value m
+  oriented : (m : ℕ) → TypeKnown rows → widthOf rows layout.count ≡ 0 → 0 < widthOf rows layout.orientation → widthOf rows layout.offset ≡ 0 → widthOf rows layout.included ≡ 0 → widthOf rows layout.bearing ≡ 0 → 0 < widthOf rows layout.confidence
+      → CodesAnswer (value layout.orientation) 0 0 (value layout.confidence) m → CodesAnswerOf rows value m
   oriented m l a b c d f g h =
-      coded (value orientation) 0 0 m l (no-count a)
-      (λ p. record { orientations = λ _. p .0; offsets = unused offset c; includeds = unused included d; bearings = unused bearing f })
+      coded (value layout.orientation) 0 0 m l (no-count a)
+      (λ p. record { orientations = λ _. p .0; offsets = unused layout.offset c; includeds = unused layout.included d; bearings = unused layout.bearing f })
       (λ s. (s .orientations b, omega arith, omega arith)) g h
 
 -- ---- each kind
@@ -63,7 +64,7 @@ KindAnswer AltitudeEllipsoid n a b c d m = CodesAnswer a 0 0 d m
 KindAnswer Arc n a b c d m = CodesAnswer 0 b c d m
 
 module _ (n : ℕ) (value : MessageField → ℕ) where
-  pub kind-codes : (k : Kind) (m : ℕ) → KindAnswer k (value count) (value orientation) (value offset) (value included) (value confidence) m → CodesAnswerOf (shapeRows k n) value m
+  pub kind-codes : (k : Kind) (m : ℕ) → KindAnswer k (value layout.count) (value layout.orientation) (value layout.offset) (value layout.included) (value layout.confidence) m → CodesAnswerOf (shapeRows k n) value m
   kind-codes Nothing m h = unmet (λ l. absurd (omega arith)) h
   kind-codes Point m h = rw h (plain (shapeRows Point n) value (omega arith) refl refl refl refl refl refl)
   kind-codes Circle m h = rw h (plain (shapeRows Circle n) value (omega arith) refl refl refl refl refl refl)
@@ -71,23 +72,23 @@ module _ (n : ℕ) (value : MessageField → ℕ) where
   kind-codes Polygon m h =
       met (rw (polygon-length n) (omega arith))
       (unless-as (λ p. record { least = λ _. p .0; most = λ _. p .1 }) (λ s. (s .least (omega arith), s .most (omega arith)))
-      (λ z. met (no-angles (shapeRows Polygon n) value (none orientation (omega arith) (omega arith)) (none offset (omega arith) (omega arith)) (none included (omega arith) (omega arith)) (none bearing (omega arith) (omega arith)))
-      (met (no-confidence (shapeRows Polygon n) value (none confidence (omega arith) (omega arith))) z)) h)
+      (λ z. met (no-angles (shapeRows Polygon n) value (none layout.orientation (omega arith) (omega arith)) (none layout.offset (omega arith) (omega arith)) (none layout.included (omega arith) (omega arith)) (none layout.bearing (omega arith) (omega arith)))
+      (met (no-confidence (shapeRows Polygon n) value (none layout.confidence (omega arith) (omega arith))) z)) h)
     where
       none : (f : MessageField) → 2 ≤ tag f → tag f < 22 → widthOf (shapeRows Polygon n) f ≡ 0
       none f a b = none-found n f a (λ l. absurd (omega arith))
   kind-codes AltitudePoint m h = rw h (plain (shapeRows AltitudePoint n) value (omega arith) refl refl refl refl refl refl)
   kind-codes AltitudeEllipsoid m h = oriented (shapeRows AltitudeEllipsoid n) value m (omega arith) refl (omega arith) refl refl refl (omega arith) h
   kind-codes Arc m h =
-      coded (shapeRows Arc n) value 0 (value offset) (value included) m (omega arith) (no-count (shapeRows Arc n) value refl)
-      (λ p. record { orientations = unused (shapeRows Arc n) value orientation refl; offsets = λ _. p .1; includeds = λ _. p .2; bearings = unused (shapeRows Arc n) value bearing refl })
+      coded (shapeRows Arc n) value 0 (value layout.offset) (value layout.included) m (omega arith) (no-count (shapeRows Arc n) value refl)
+      (λ p. record { orientations = unused (shapeRows Arc n) value layout.orientation refl; offsets = λ _. p .1; includeds = λ _. p .2; bearings = unused (shapeRows Arc n) value layout.bearing refl })
       (λ s. (omega arith, s .offsets (omega arith), s .includeds (omega arith))) (omega arith) h
 
 -- and for the kind that elements say, by their numbers
 pub elements-codes : (elements : List ℕ) {kind k : Kind} {m : ℕ} → kind ≡ arrayKind elements → kind ≡ k → KindAnswer k (elementAt elements 1) (elementAt elements 10) (elementAt elements 13) (elementAt elements 14) (elementAt elements 15) m → CodesAnswerOf (arrayRows elements) (valueIn elements) m
 elements-codes elements {k = k} {m = m} e f h =
-    subst (λ (k : Kind). CodesAnswerOf (shapeRows k (valueIn elements count)) (valueIn elements) m) (sym f ∙ e)
-    (kind-codes (valueIn elements count) (valueIn elements) k m (rw (same-element elements 1 (omega arith), same-element elements 10 (omega arith), same-element elements 13 (omega arith), same-element elements 14 (omega arith), same-element elements 15 (omega arith)) at h))
+    subst (λ (k : Kind). CodesAnswerOf (shapeRows k (valueIn elements layout.count)) (valueIn elements) m) (sym f ∙ e)
+    (kind-codes (valueIn elements layout.count) (valueIn elements) k m (rw (same-element elements 1 (omega arith), same-element elements 10 (omega arith), same-element elements 13 (omega arith), same-element elements 14 (omega arith), same-element elements 15 (omega arith)) at h))
 
 -- ---- any record's answer
 

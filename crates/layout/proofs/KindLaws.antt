@@ -5,13 +5,13 @@ use mathlib.Core.Path.{_≡_, refl, sym, _∙_}
 use mathlib.Core.Bool.{Bool, true, _&&_}
 use mathlib.Core.List.{List, [], _∷_}
 use native.Mathlib.Omega.{arith}
-use lib.Dec.{ltb}
-use borrow.Author.Tests.{ltb-true, ne-eqb}
+use lib.Dec.{eqb, ltb}
+use borrow.Author.Tests.{eqb-true, ltb-true, ne-eqb}
 use Rattle.layout.specs.declared.shape.Kind.{Kind}
 use Rattle.layout.specs.declared.shape.Kind.the-variants as shape
 use Rattle.layout.specs.declared.velocity.VelocityKind.{VelocityKind}
 use Rattle.layout.specs.declared.velocity.VelocityKind.the-variants as velocity
-use Rattle.layout.specs.Layout.{MessageField, Row, shapeRows, velocityRows, typeOf}
+use Rattle.layout.specs.Layout.{MessageField, Row, typeNumber, count, shapeRows, velocityRows, typeOf}
 use Rattle.layout.specs.Rows.{tag, widthOf}
 use Rattle.layout.proofs.TidyLaws.{Tidy, both, tidy-by-test}
 use Rattle.layout.proofs.PolygonLaws.{point-row, point-found, none-found, polygon-tidy}
@@ -33,16 +33,43 @@ velocity-tidy velocity.HorizontalVertical = tidy-by-test _ refl
 velocity-tidy velocity.HorizontalUncertain = tidy-by-test _ refl
 velocity-tidy velocity.HorizontalVerticalUncertain = tidy-by-test _ refl
 
+-- ---- a test that each kind passes, every kind passes: laws that are computed cite it
+
+abbrev pub everyKind : (Kind → Bool) → Bool
+everyKind test =
+    test shape.Nothing && (test shape.Point && (test shape.Circle && (test shape.Ellipse && (test shape.Polygon && (test shape.AltitudePoint && (test shape.AltitudeEllipsoid && test shape.Arc))))))
+
+pub each-kind : (test : Kind → Bool) → everyKind test ≡ true → (k : Kind) → test k ≡ true
+each-kind test e k =
+    let a = both _ _ e in
+    let b = both _ _ (a .1) in
+    let c = both _ _ (b .1) in
+    let d = both _ _ (c .1) in
+    let f = both _ _ (d .1) in
+    let g = both _ _ (f .1) in
+    let h = both _ _ (g .1) in
+    by (a .0) (b .0) (c .0) (d .0) (f .0) (g .0) (h .0) (h .1) k
+  where
+    by : test shape.Nothing ≡ true → test shape.Point ≡ true → test shape.Circle ≡ true → test shape.Ellipse ≡ true → test shape.Polygon ≡ true → test shape.AltitudePoint ≡ true → test shape.AltitudeEllipsoid ≡ true → test shape.Arc ≡ true → (k : Kind) → test k ≡ true
+    by a b c d f g h i shape.Nothing = a
+    by a b c d f g h i shape.Point = b
+    by a b c d f g h i shape.Circle = c
+    by a b c d f g h i shape.Ellipse = d
+    by a b c d f g h i shape.Polygon = f
+    by a b c d f g h i shape.AltitudePoint = g
+    by a b c d f g h i shape.AltitudeEllipsoid = h
+    by a b c d f g h i shape.Arc = i
+
 -- a type's number has four bits
 pub type-small : (k : Kind) → typeOf k < 16
-type-small shape.Nothing = omega arith
-type-small shape.Point = omega arith
-type-small shape.Circle = omega arith
-type-small shape.Ellipse = omega arith
-type-small shape.Polygon = omega arith
-type-small shape.AltitudePoint = omega arith
-type-small shape.AltitudeEllipsoid = omega arith
-type-small shape.Arc = omega arith
+type-small k = ltb-true _ _ (each-kind (λ k. ltb (typeOf k) 16) refl k)
+
+-- the widths of the type and of the count don't depend on the count
+pub type-width : (k : Kind) (n : ℕ) → widthOf (shapeRows k n) typeNumber ≡ widthOf (shapeRows k 0) typeNumber
+type-width k n = eqb-true _ _ (each-kind (λ k. eqb (widthOf (shapeRows k n) typeNumber) (widthOf (shapeRows k 0) typeNumber)) refl k)
+
+pub count-width : (k : Kind) (n : ℕ) → widthOf (shapeRows k n) count ≡ widthOf (shapeRows k 0) count
+count-width k n = eqb-true _ _ (each-kind (λ k. eqb (widthOf (shapeRows k n) count) (widthOf (shapeRows k 0) count)) refl k)
 
 -- ---- widths
 

@@ -14,32 +14,8 @@ use Rattle.octets.specs.Codes.{bitOf, signOf, complement, fromComplement}
 use Rattle.octets.proofs.ComplementLaws.{complement-again, complement-back}
 use Rattle.layout.specs.declared.shape.Kind.{Kind}
 use Rattle.layout.specs.declared.shape.Shape.{Shape}
-use Rattle.layout.specs.Layout.{
-  MessageField,
-  typeNumber,
-  count,
-  south,
-  latitude,
-  longitude,
-  depth,
-  altitude,
-  uncertainty,
-  semiMajor,
-  semiMinor,
-  orientation,
-  altitudeUncertainty,
-  confidence,
-  innerRadius,
-  offset,
-  included,
-  bearing,
-  horizontalSpeed,
-  down,
-  verticalSpeed,
-  speedUncertainty,
-  verticalUncertainty,
-  typeOf,
-}
+use Rattle.layout.specs.Layout.{MessageField, typeOf}
+use Rattle.layout.specs.Layout as layout
 use Rattle.layout.specs.Shapes.{upto, latitudeOf, longitudeOf, shapeOf, valueOf, zeroLatitude, zeroLongitude, Fifteen}
 use Rattle.layout.proofs.WidthLaws.{shapeWidest}
 
@@ -80,8 +56,8 @@ module _ {A : Type 0} (f : ℕ → A) where
 
 -- ---- the record of numbers has those numbers
 
-module _ (k : Kind) (value : MessageField → ℕ) (type-number : typeOf k ≡ value typeNumber) (codes : (f : MessageField) → value f < 2 ^ shapeWidest f)
-    (none : (i : ℕ) → 15 ≤ i → (value (south (suc i)) ≡ 0) × (value (latitude (suc i)) ≡ 0) × (value (longitude (suc i)) ≡ 0)) where
+module _ (k : Kind) (value : MessageField → ℕ) (type-number : typeOf k ≡ value layout.typeNumber) (codes : (f : MessageField) → value f < 2 ^ shapeWidest f)
+    (none : (i : ℕ) → 15 ≤ i → (value (layout.south (suc i)) ≡ 0) × (value (layout.latitude (suc i)) ≡ 0) × (value (layout.longitude (suc i)) ≡ 0)) where
   latitudes : List LatitudeCode
   latitudes = upto 15 (λ i. latitudeOf value (suc i))
 
@@ -110,31 +86,31 @@ module _ (k : Kind) (value : MessageField → ℕ) (type-number : typeOf k ≡ v
 
   pub values-of : (f : MessageField) → valueOf (shapeOf k value) f ≡ value f
   unfolding latitudes longitudes
-  values-of typeNumber = type-number
-  values-of count = refl
-  values-of (south zero) = bit-back (value (south 0)) (codes (south 0))
-  values-of (south (suc i)) = ap (λ (c : LatitudeCode). bitOf (c .0)) (latitude-at i (ltb i 15) refl) ∙ bit-back (value (south (suc i))) (codes (south (suc i)))
-  values-of (latitude zero) = refl
-  values-of (latitude (suc i)) = ap (λ (c : LatitudeCode). c .1) (latitude-at i (ltb i 15) refl)
-  values-of (longitude zero) = complement-again (value (longitude 0)) (codes (longitude 0))
-  values-of (longitude (suc i)) = ap (λ (c : LongitudeCode). complement (c .0)) (longitude-at i (ltb i 15) refl) ∙ complement-again (value (longitude (suc i))) (codes (longitude (suc i)))
-  values-of depth = bit-back (value depth) (codes depth)
-  values-of altitude = refl
-  values-of uncertainty = refl
-  values-of semiMajor = refl
-  values-of semiMinor = refl
-  values-of orientation = refl
-  values-of altitudeUncertainty = refl
-  values-of confidence = refl
-  values-of innerRadius = refl
-  values-of offset = refl
-  values-of included = refl
-  values-of bearing = unused bearing (codes bearing)
-  values-of horizontalSpeed = unused horizontalSpeed (codes horizontalSpeed)
-  values-of down = unused down (codes down)
-  values-of verticalSpeed = unused verticalSpeed (codes verticalSpeed)
-  values-of speedUncertainty = unused speedUncertainty (codes speedUncertainty)
-  values-of verticalUncertainty = unused verticalUncertainty (codes verticalUncertainty)
+  values-of layout.typeNumber = type-number
+  values-of layout.count = refl
+  values-of (layout.south zero) = bit-back (value (layout.south 0)) (codes (layout.south 0))
+  values-of (layout.south (suc i)) = ap (λ (c : LatitudeCode). bitOf (c .0)) (latitude-at i (ltb i 15) refl) ∙ bit-back (value (layout.south (suc i))) (codes (layout.south (suc i)))
+  values-of (layout.latitude zero) = refl
+  values-of (layout.latitude (suc i)) = ap (λ (c : LatitudeCode). c .1) (latitude-at i (ltb i 15) refl)
+  values-of (layout.longitude zero) = complement-again (value (layout.longitude 0)) (codes (layout.longitude 0))
+  values-of (layout.longitude (suc i)) = ap (λ (c : LongitudeCode). complement (c .0)) (longitude-at i (ltb i 15) refl) ∙ complement-again (value (layout.longitude (suc i))) (codes (layout.longitude (suc i)))
+  values-of layout.depth = bit-back (value layout.depth) (codes layout.depth)
+  values-of layout.altitude = refl
+  values-of layout.uncertainty = refl
+  values-of layout.semiMajor = refl
+  values-of layout.semiMinor = refl
+  values-of layout.orientation = refl
+  values-of layout.altitudeUncertainty = refl
+  values-of layout.confidence = refl
+  values-of layout.innerRadius = refl
+  values-of layout.offset = refl
+  values-of layout.included = refl
+  values-of layout.bearing = unused layout.bearing (codes layout.bearing)
+  values-of layout.horizontalSpeed = unused layout.horizontalSpeed (codes layout.horizontalSpeed)
+  values-of layout.down = unused layout.down (codes layout.down)
+  values-of layout.verticalSpeed = unused layout.verticalSpeed (codes layout.verticalSpeed)
+  values-of layout.speedUncertainty = unused layout.speedUncertainty (codes layout.speedUncertainty)
+  values-of layout.verticalUncertainty = unused layout.verticalUncertainty (codes layout.verticalUncertainty)
 
 -- ---- the record of a record's numbers is that record
 
@@ -143,13 +119,13 @@ module _ (x : Shape) (fifteen : Fifteen x) (codes : (f : MessageField) → value
   latitude-same i = λ j. record { 0 = sign-back (getD (x .latitudes) i zeroLatitude .0) j; 1 = getD (x .latitudes) i zeroLatitude .1 }
 
   longitude-same : (i : ℕ) → longitudeOf (valueOf x) (suc i) ≡ getD (x .longitudes) i zeroLongitude
-  longitude-same i = λ j. record { 0 = complement-back (getD (x .longitudes) i zeroLongitude .0) (codes (longitude (suc i))) j }
+  longitude-same i = λ j. record { 0 = complement-back (getD (x .longitudes) i zeroLongitude .0) (codes (layout.longitude (suc i))) j }
 
   pub shape-of-values : shapeOf (x .kind) (valueOf x) ≡ x
   shape-of-values = λ j. record {
     kind = x .kind;
     latitude = record { 0 = sign-back (x .latitude .0) j; 1 = x .latitude .1 };
-    longitude = record { 0 = complement-back (x .longitude .0) (codes (longitude 0)) j };
+    longitude = record { 0 = complement-back (x .longitude .0) (codes (layout.longitude 0)) j };
     altitude = record { 0 = sign-back (x .altitude .0) j; 1 = x .altitude .1 };
     uncertainty = x .uncertainty;
     «semi_major» = x .«semi_major»;

@@ -13,34 +13,8 @@ use Rattle.layout.specs.declared.velocity.VelocityKind.{VelocityKind}
 use Rattle.layout.specs.declared.velocity.VelocityKind.the-variants.{Nothing, Horizontal, HorizontalVertical, HorizontalUncertain, HorizontalVerticalUncertain}
 use Rattle.layout.specs.declared.velocity.Velocity.{Velocity}
 use Rattle.layout.specs.declared.velocity.VelocityRead.{VelocityRead}
-use Rattle.layout.specs.Layout.{
-  MessageField,
-  typeNumber,
-  count,
-  south,
-  latitude,
-  longitude,
-  depth,
-  altitude,
-  uncertainty,
-  semiMajor,
-  semiMinor,
-  orientation,
-  altitudeUncertainty,
-  confidence,
-  innerRadius,
-  offset,
-  included,
-  bearing,
-  horizontalSpeed,
-  down,
-  verticalSpeed,
-  speedUncertainty,
-  verticalUncertainty,
-  Row,
-  velocityRows,
-  velocityTypeOf,
-}
+use Rattle.layout.specs.Layout.{MessageField, Row, velocityRows, velocityTypeOf}
+use Rattle.layout.specs.Layout as layout
 use Rattle.layout.specs.Rows.{read, lengthOf, message, spareZero}
 use Rattle.layout.specs.Demands.{TypeKnown, ReadAnswer, WriteAnswer, Sound}
 use Rattle.layout.specs.Velocities.{velocityKindOf, velocityKindIn, velocityRowsIn, velocityIn, velocityOf, blankVelocity, velocityValueOf, ReadsVelocity, WritesVelocity}
@@ -55,7 +29,7 @@ use Rattle.layout.proofs.Trips.{Coder, Read, taken, accepted, again, sa
 
 -- ---- the type
 
-type-read : (k : VelocityKind) (s : List ℕ) → TypeKnown (velocityRows k) → read s (velocityRows k) typeNumber ≡ bits s 0 4
+type-read : (k : VelocityKind) (s : List ℕ) → TypeKnown (velocityRows k) → read s (velocityRows k) layout.typeNumber ≡ bits s 0 4
 type-read Nothing s h = absurd (omega arith)
 type-read Horizontal s h = refl
 type-read HorizontalVertical s h = refl
@@ -78,33 +52,33 @@ type-back (suc (suc (suc (suc t)))) h = absurd (omega arith)
 
 -- ---- the record and its numbers
 
-module _ (k : VelocityKind) (value : MessageField → ℕ) (type-number : velocityTypeOf k ≡ value typeNumber) (codes : (f : MessageField) → value f < 2 ^ velocityWidest f) where
+module _ (k : VelocityKind) (value : MessageField → ℕ) (type-number : velocityTypeOf k ≡ value layout.typeNumber) (codes : (f : MessageField) → value f < 2 ^ velocityWidest f) where
   unused : (f : MessageField) → value f < 1 → 0 ≡ value f
   unused f h = omega arith
 
   values-of : (f : MessageField) → velocityValueOf (velocityOf k value) f ≡ value f
-  values-of typeNumber = type-number
-  values-of bearing = refl
-  values-of horizontalSpeed = refl
-  values-of down = bit-back (value down) (codes down)
-  values-of verticalSpeed = refl
-  values-of speedUncertainty = refl
-  values-of verticalUncertainty = refl
-  values-of count = unused count (codes count)
-  values-of (south i) = unused (south i) (codes (south i))
-  values-of (latitude i) = unused (latitude i) (codes (latitude i))
-  values-of (longitude i) = unused (longitude i) (codes (longitude i))
-  values-of depth = unused depth (codes depth)
-  values-of altitude = unused altitude (codes altitude)
-  values-of uncertainty = unused uncertainty (codes uncertainty)
-  values-of semiMajor = unused semiMajor (codes semiMajor)
-  values-of semiMinor = unused semiMinor (codes semiMinor)
-  values-of orientation = unused orientation (codes orientation)
-  values-of altitudeUncertainty = unused altitudeUncertainty (codes altitudeUncertainty)
-  values-of confidence = unused confidence (codes confidence)
-  values-of innerRadius = unused innerRadius (codes innerRadius)
-  values-of offset = unused offset (codes offset)
-  values-of included = unused included (codes included)
+  values-of layout.typeNumber = type-number
+  values-of layout.bearing = refl
+  values-of layout.horizontalSpeed = refl
+  values-of layout.down = bit-back (value layout.down) (codes layout.down)
+  values-of layout.verticalSpeed = refl
+  values-of layout.speedUncertainty = refl
+  values-of layout.verticalUncertainty = refl
+  values-of layout.count = unused layout.count (codes layout.count)
+  values-of (layout.south i) = unused (layout.south i) (codes (layout.south i))
+  values-of (layout.latitude i) = unused (layout.latitude i) (codes (layout.latitude i))
+  values-of (layout.longitude i) = unused (layout.longitude i) (codes (layout.longitude i))
+  values-of layout.depth = unused layout.depth (codes layout.depth)
+  values-of layout.altitude = unused layout.altitude (codes layout.altitude)
+  values-of layout.uncertainty = unused layout.uncertainty (codes layout.uncertainty)
+  values-of layout.semiMajor = unused layout.semiMajor (codes layout.semiMajor)
+  values-of layout.semiMinor = unused layout.semiMinor (codes layout.semiMinor)
+  values-of layout.orientation = unused layout.orientation (codes layout.orientation)
+  values-of layout.altitudeUncertainty = unused layout.altitudeUncertainty (codes layout.altitudeUncertainty)
+  values-of layout.confidence = unused layout.confidence (codes layout.confidence)
+  values-of layout.innerRadius = unused layout.innerRadius (codes layout.innerRadius)
+  values-of layout.offset = unused layout.offset (codes layout.offset)
+  values-of layout.included = unused layout.included (codes layout.included)
 
 pub velocity-of-values : (x : Velocity) → velocityOf (x .kind) (velocityValueOf x) ≡ x
 velocity-of-values x = λ j. record {
@@ -128,12 +102,12 @@ module _ (x : Velocity) (h : Sound (velocityRows (x .kind)) (velocityValueOf x))
   rows-back : velocityRowsIn (message (velocityRows (x .kind)) (velocityValueOf x)) ≡ velocityRows (x .kind)
   rows-back =
       let m = message (velocityRows (x .kind)) (velocityValueOf x) in
-      ap velocityRows (kind-of m (sym (type-read (x .kind) m (h .listed)) ∙ read-message (velocityRows (x .kind)) (velocity-tidy (x .kind)) (velocityValueOf x) (h .fields) typeNumber))
+      ap velocityRows (kind-of m (sym (type-read (x .kind) m (h .listed)) ∙ read-message (velocityRows (x .kind)) (velocity-tidy (x .kind)) (velocityValueOf x) (h .fields) layout.typeNumber))
 
   record-back : (s : List ℕ) → velocityRowsIn s ≡ velocityRows (x .kind) → ((f : MessageField) → read s (velocityRowsIn s) f ≡ velocityValueOf x f) → velocityIn s ≡ x
   record-back s e same =
       let listed : TypeKnown (velocityRowsIn s) = subst (λ (rows : List Row). TypeKnown rows) (sym e) (h .listed) in
-      ap (λ (j : VelocityKind). velocityOf j (read s (velocityRowsIn s))) (kind-of s (sym (type-read (velocityKindIn s) s listed) ∙ same typeNumber))
+      ap (λ (j : VelocityKind). velocityOf j (read s (velocityRowsIn s))) (kind-of s (sym (type-read (velocityKindIn s) s listed) ∙ same layout.typeNumber))
       ∙ ap (velocityOf (x .kind)) (λ i f. same f i)
       ∙ velocity-of-values x
 

@@ -12,35 +12,8 @@ use Rattle.layout.specs.declared.shape.Kind.{Kind}
 use Rattle.layout.specs.declared.shape.Kind.the-variants.{Nothing, Point, Circle, Ellipse, Polygon, AltitudePoint, AltitudeEllipsoid, Arc}
 use Rattle.layout.specs.declared.velocity.VelocityKind.{VelocityKind}
 use Rattle.layout.specs.declared.velocity.VelocityKind.the-variants as velocity
-use Rattle.layout.specs.Layout.{
-  MessageField,
-  typeNumber,
-  count,
-  south,
-  latitude,
-  longitude,
-  depth,
-  altitude,
-  uncertainty,
-  semiMajor,
-  semiMinor,
-  orientation,
-  altitudeUncertainty,
-  confidence,
-  innerRadius,
-  offset,
-  included,
-  bearing,
-  horizontalSpeed,
-  down,
-  verticalSpeed,
-  speedUncertainty,
-  verticalUncertainty,
-  Row,
-  points,
-  shapeRows,
-  velocityRows,
-}
+use Rattle.layout.specs.Layout.{MessageField, Row, points, shapeRows, velocityRows}
+use Rattle.layout.specs.Layout as layout
 use Rattle.layout.specs.Rows.{tag, widthOf}
 use Rattle.layout.specs.Demands.{InFields}
 use Rattle.layout.proofs.FieldLaws.{tag-one}
@@ -70,53 +43,53 @@ module _ (widest : MessageField → ℕ) where
 
 -- the widest that a field is in any shape; a velocity's fields are in none
 abbrev pub shapeWidest : MessageField → ℕ
-shapeWidest typeNumber = 4
-shapeWidest count = 4
-shapeWidest (south i) = 1
-shapeWidest (latitude i) = 23
-shapeWidest (longitude i) = 24
-shapeWidest depth = 1
-shapeWidest altitude = 15
-shapeWidest uncertainty = 7
-shapeWidest semiMajor = 7
-shapeWidest semiMinor = 7
-shapeWidest orientation = 8
-shapeWidest altitudeUncertainty = 7
-shapeWidest confidence = 7
-shapeWidest innerRadius = 16
-shapeWidest offset = 8
-shapeWidest included = 8
-shapeWidest bearing = 0
-shapeWidest horizontalSpeed = 0
-shapeWidest down = 0
-shapeWidest verticalSpeed = 0
-shapeWidest speedUncertainty = 0
-shapeWidest verticalUncertainty = 0
+shapeWidest layout.typeNumber = 4
+shapeWidest layout.count = 4
+shapeWidest (layout.south i) = 1
+shapeWidest (layout.latitude i) = 23
+shapeWidest (layout.longitude i) = 24
+shapeWidest layout.depth = 1
+shapeWidest layout.altitude = 15
+shapeWidest layout.uncertainty = 7
+shapeWidest layout.semiMajor = 7
+shapeWidest layout.semiMinor = 7
+shapeWidest layout.orientation = 8
+shapeWidest layout.altitudeUncertainty = 7
+shapeWidest layout.confidence = 7
+shapeWidest layout.innerRadius = 16
+shapeWidest layout.offset = 8
+shapeWidest layout.included = 8
+shapeWidest layout.bearing = 0
+shapeWidest layout.horizontalSpeed = 0
+shapeWidest layout.down = 0
+shapeWidest layout.verticalSpeed = 0
+shapeWidest layout.speedUncertainty = 0
+shapeWidest layout.verticalUncertainty = 0
 
 -- the same of velocities
 abbrev pub velocityWidest : MessageField → ℕ
-velocityWidest typeNumber = 4
-velocityWidest count = 0
-velocityWidest (south i) = 0
-velocityWidest (latitude i) = 0
-velocityWidest (longitude i) = 0
-velocityWidest depth = 0
-velocityWidest altitude = 0
-velocityWidest uncertainty = 0
-velocityWidest semiMajor = 0
-velocityWidest semiMinor = 0
-velocityWidest orientation = 0
-velocityWidest altitudeUncertainty = 0
-velocityWidest confidence = 0
-velocityWidest innerRadius = 0
-velocityWidest offset = 0
-velocityWidest included = 0
-velocityWidest bearing = 9
-velocityWidest horizontalSpeed = 16
-velocityWidest down = 1
-velocityWidest verticalSpeed = 8
-velocityWidest speedUncertainty = 8
-velocityWidest verticalUncertainty = 8
+velocityWidest layout.typeNumber = 4
+velocityWidest layout.count = 0
+velocityWidest (layout.south i) = 0
+velocityWidest (layout.latitude i) = 0
+velocityWidest (layout.longitude i) = 0
+velocityWidest layout.depth = 0
+velocityWidest layout.altitude = 0
+velocityWidest layout.uncertainty = 0
+velocityWidest layout.semiMajor = 0
+velocityWidest layout.semiMinor = 0
+velocityWidest layout.orientation = 0
+velocityWidest layout.altitudeUncertainty = 0
+velocityWidest layout.confidence = 0
+velocityWidest layout.innerRadius = 0
+velocityWidest layout.offset = 0
+velocityWidest layout.included = 0
+velocityWidest layout.bearing = 9
+velocityWidest layout.horizontalSpeed = 16
+velocityWidest layout.down = 1
+velocityWidest layout.verticalSpeed = 8
+velocityWidest layout.speedUncertainty = 8
+velocityWidest layout.verticalUncertainty = 8
 
 points-within : (i n : ℕ) → within shapeWidest (points i n) ≡ true
 points-within i zero = refl

@@ -6,7 +6,8 @@ use lib.ListN.{length, drop}
 use Rattle.ground.specs.Answers.{outcomeNumber, handed, Unless, Else0}
 use Rattle.ground.specs.Counts.{angleCodes, bearingCodes, confidenceCodes}
 use Rattle.layout.specs.declared.Written.{Written}
-use Rattle.layout.specs.Layout.{MessageField, Row, count, orientation, offset, included, bearing, confidence}
+use Rattle.layout.specs.Layout.{MessageField, Row}
+use Rattle.layout.specs.Layout as layout
 use Rattle.layout.specs.Rows.{widthOf, read, lengthOf, message}
 
 -- a type that is not listed has no rows
@@ -19,19 +20,19 @@ Used rows f = 0 < widthOf rows f
 
 -- 4: polygon count outside 3..15
 pub record CountSound (rows : List Row) (value : MessageField → ℕ) : Type 0 where
-  pub least : Used rows count → 3 ≤ value count
-  pub most : Used rows count → value count ≤ 15
+  pub least : Used rows layout.count → 3 ≤ value layout.count
+  pub most : Used rows layout.count → value layout.count ≤ 15
 
 -- 5: orientation, offset or included code 180 or more; bearing code 360 or more
 pub record AnglesSound (rows : List Row) (value : MessageField → ℕ) : Type 0 where
-  pub orientations : Used rows orientation → value orientation < angleCodes
-  pub offsets : Used rows offset → value offset < angleCodes
-  pub includeds : Used rows included → value included < angleCodes
-  pub bearings : Used rows bearing → value bearing < bearingCodes
+  pub orientations : Used rows layout.orientation → value layout.orientation < angleCodes
+  pub offsets : Used rows layout.offset → value layout.offset < angleCodes
+  pub includeds : Used rows layout.included → value layout.included < angleCodes
+  pub bearings : Used rows layout.bearing → value layout.bearing < bearingCodes
 
 -- 6: confidence code 101 or more
 pub record ConfidenceSound (rows : List Row) (value : MessageField → ℕ) : Type 0 where
-  pub confidences : Used rows confidence → value confidence < confidenceCodes
+  pub confidences : Used rows layout.confidence → value layout.confidence < confidenceCodes
 
 -- 7: a record's code outside its field; a field that the type doesn't use has no bits, and is zero
 pub record InFields (rows : List Row) (value : MessageField → ℕ) : Type 0 where

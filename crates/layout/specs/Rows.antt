@@ -4,57 +4,33 @@ use mathlib.Core.List.{List, [], _∷_}
 use Prim.Native.Nat.{ℕ, _+_, _-_, _*_, _/_, _^_}
 use lib.Dec.{eqb}
 use Rattle.octets.specs.Bits.{bits, octets}
-use Rattle.layout.specs.Layout.{
-  MessageField,
-  typeNumber,
-  count,
-  south,
-  latitude,
-  longitude,
-  depth,
-  altitude,
-  uncertainty,
-  semiMajor,
-  semiMinor,
-  orientation,
-  altitudeUncertainty,
-  confidence,
-  innerRadius,
-  offset,
-  included,
-  bearing,
-  horizontalSpeed,
-  down,
-  verticalSpeed,
-  speedUncertainty,
-  verticalUncertainty,
-  Row,
-}
+use Rattle.layout.specs.Layout.{MessageField, Row}
+use Rattle.layout.specs.Layout as layout
 
 -- a number for each field, to tell them apart
 abbrev pub tag : MessageField → ℕ
-tag typeNumber = 0
-tag count = 1
-tag depth = 2
-tag altitude = 3
-tag uncertainty = 4
-tag semiMajor = 5
-tag semiMinor = 6
-tag orientation = 7
-tag altitudeUncertainty = 8
-tag confidence = 9
-tag innerRadius = 10
-tag offset = 11
-tag included = 12
-tag bearing = 13
-tag horizontalSpeed = 14
-tag down = 15
-tag verticalSpeed = 16
-tag speedUncertainty = 17
-tag verticalUncertainty = 18
-tag (south i) = 3 * i + 19
-tag (latitude i) = 3 * i + 20
-tag (longitude i) = 3 * i + 21
+tag layout.typeNumber = 0
+tag layout.count = 1
+tag layout.depth = 2
+tag layout.altitude = 3
+tag layout.uncertainty = 4
+tag layout.semiMajor = 5
+tag layout.semiMinor = 6
+tag layout.orientation = 7
+tag layout.altitudeUncertainty = 8
+tag layout.confidence = 9
+tag layout.innerRadius = 10
+tag layout.offset = 11
+tag layout.included = 12
+tag layout.bearing = 13
+tag layout.horizontalSpeed = 14
+tag layout.down = 15
+tag layout.verticalSpeed = 16
+tag layout.speedUncertainty = 17
+tag layout.verticalUncertainty = 18
+tag (layout.south i) = 3 * i + 19
+tag (layout.latitude i) = 3 * i + 20
+tag (layout.longitude i) = 3 * i + 21
 
 -- each of these rows
 abbrev pub All : (Row → Type 0) → List Row → Type 0

@@ -15,34 +15,8 @@ use Rattle.layout.specs.declared.shape.Kind.{Kind}
 use Rattle.layout.specs.declared.shape.Kind.the-variants.{Nothing, Point, Circle, Ellipse, Polygon, AltitudePoint, AltitudeEllipsoid, Arc}
 use Rattle.layout.specs.declared.shape.Shape.{Shape}
 use Rattle.layout.specs.declared.shape.ShapeRead.{ShapeRead}
-use Rattle.layout.specs.Layout.{
-  MessageField,
-  typeNumber,
-  count,
-  south,
-  latitude,
-  longitude,
-  depth,
-  altitude,
-  uncertainty,
-  semiMajor,
-  semiMinor,
-  orientation,
-  altitudeUncertainty,
-  confidence,
-  innerRadius,
-  offset,
-  included,
-  bearing,
-  horizontalSpeed,
-  down,
-  verticalSpeed,
-  speedUncertainty,
-  verticalUncertainty,
-  Row,
-  shapeRows,
-  typeOf,
-}
+use Rattle.layout.specs.Layout.{MessageField, Row, shapeRows, typeOf}
+use Rattle.layout.specs.Layout as layout
 use Rattle.layout.specs.Rows.{read}
 use Rattle.layout.specs.Demands.{ReadAnswer, Writes}
 
@@ -58,10 +32,10 @@ upto (suc n) f = upto n f ++ (f n ∷ [])
 -- ---- a record from the numbers of its fields
 
 abbrev pub latitudeOf : (MessageField → ℕ) → ℕ → LatitudeCode
-latitudeOf value i = record { 0 = signOf (value (south i)); 1 = value (latitude i) }
+latitudeOf value i = record { 0 = signOf (value (layout.south i)); 1 = value (layout.latitude i) }
 
 abbrev pub longitudeOf : (MessageField → ℕ) → ℕ → LongitudeCode
-longitudeOf value i = record { 0 = fromComplement (value (longitude i)) }
+longitudeOf value i = record { 0 = fromComplement (value (layout.longitude i)) }
 
 -- with these points, and so many of them
 abbrev pub shapeWith : Kind → (MessageField → ℕ) → ℕ → List LatitudeCode → List LongitudeCode → Shape
@@ -69,23 +43,23 @@ shapeWith k value n latitudes longitudes = record {
   kind = k;
   latitude = latitudeOf value 0;
   longitude = longitudeOf value 0;
-  altitude = record { 0 = signOf (value depth); 1 = value altitude };
-  uncertainty = record { 0 = value uncertainty };
-  «semi_major» = record { 0 = value semiMajor };
-  «semi_minor» = record { 0 = value semiMinor };
-  orientation = record { 0 = value orientation };
-  «altitude_uncertainty» = record { 0 = value altitudeUncertainty };
-  confidence = record { 0 = value confidence };
-  «inner_radius» = record { 0 = value innerRadius };
-  offset = record { 0 = value offset };
-  included = record { 0 = value included };
+  altitude = record { 0 = signOf (value layout.depth); 1 = value layout.altitude };
+  uncertainty = record { 0 = value layout.uncertainty };
+  «semi_major» = record { 0 = value layout.semiMajor };
+  «semi_minor» = record { 0 = value layout.semiMinor };
+  orientation = record { 0 = value layout.orientation };
+  «altitude_uncertainty» = record { 0 = value layout.altitudeUncertainty };
+  confidence = record { 0 = value layout.confidence };
+  «inner_radius» = record { 0 = value layout.innerRadius };
+  offset = record { 0 = value layout.offset };
+  included = record { 0 = value layout.included };
   count = n;
   latitudes = latitudes;
   longitudes = longitudes;
 }
 
 abbrev pub shapeOf : Kind → (MessageField → ℕ) → Shape
-shapeOf k value = shapeWith k value (value count) (upto 15 (λ i. latitudeOf value (suc i))) (upto 15 (λ i. longitudeOf value (suc i)))
+shapeOf k value = shapeWith k value (value layout.count) (upto 15 (λ i. latitudeOf value (suc i))) (upto 15 (λ i. longitudeOf value (suc i)))
 
 -- the record in which every code is zero, and the record of a refusal
 abbrev pub blankShape : Kind → Shape
@@ -105,31 +79,31 @@ abbrev pub zeroLongitude : LongitudeCode
 zeroLongitude = record { 0 = pos 0 }
 
 abbrev pub valueOf : Shape → MessageField → ℕ
-valueOf x typeNumber = typeOf (x .kind)
-valueOf x count = x .count
-valueOf x (south zero) = bitOf (x .latitude .0)
-valueOf x (south (suc i)) = bitOf (getD (x .latitudes) i zeroLatitude .0)
-valueOf x (latitude zero) = x .latitude .1
-valueOf x (latitude (suc i)) = getD (x .latitudes) i zeroLatitude .1
-valueOf x (longitude zero) = complement (x .longitude .0)
-valueOf x (longitude (suc i)) = complement (getD (x .longitudes) i zeroLongitude .0)
-valueOf x depth = bitOf (x .altitude .0)
-valueOf x altitude = x .altitude .1
-valueOf x uncertainty = x .uncertainty .0
-valueOf x semiMajor = x .«semi_major» .0
-valueOf x semiMinor = x .«semi_minor» .0
-valueOf x orientation = x .orientation .0
-valueOf x altitudeUncertainty = x .«altitude_uncertainty» .0
-valueOf x confidence = x .confidence .0
-valueOf x innerRadius = x .«inner_radius» .0
-valueOf x offset = x .offset .0
-valueOf x included = x .included .0
-valueOf x bearing = 0
-valueOf x horizontalSpeed = 0
-valueOf x down = 0
-valueOf x verticalSpeed = 0
-valueOf x speedUncertainty = 0
-valueOf x verticalUncertainty = 0
+valueOf x layout.typeNumber = typeOf (x .kind)
+valueOf x layout.count = x .count
+valueOf x (layout.south zero) = bitOf (x .latitude .0)
+valueOf x (layout.south (suc i)) = bitOf (getD (x .latitudes) i zeroLatitude .0)
+valueOf x (layout.latitude zero) = x .latitude .1
+valueOf x (layout.latitude (suc i)) = getD (x .latitudes) i zeroLatitude .1
+valueOf x (layout.longitude zero) = complement (x .longitude .0)
+valueOf x (layout.longitude (suc i)) = complement (getD (x .longitudes) i zeroLongitude .0)
+valueOf x layout.depth = bitOf (x .altitude .0)
+valueOf x layout.altitude = x .altitude .1
+valueOf x layout.uncertainty = x .uncertainty .0
+valueOf x layout.semiMajor = x .«semi_major» .0
+valueOf x layout.semiMinor = x .«semi_minor» .0
+valueOf x layout.orientation = x .orientation .0
+valueOf x layout.altitudeUncertainty = x .«altitude_uncertainty» .0
+valueOf x layout.confidence = x .confidence .0
+valueOf x layout.innerRadius = x .«inner_radius» .0
+valueOf x layout.offset = x .offset .0
+valueOf x layout.included = x .included .0
+valueOf x layout.bearing = 0
+valueOf x layout.horizontalSpeed = 0
+valueOf x layout.down = 0
+valueOf x layout.verticalSpeed = 0
+valueOf x layout.speedUncertainty = 0
+valueOf x layout.verticalUncertainty = 0
 
 -- ---- the promises
 

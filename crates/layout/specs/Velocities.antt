@@ -11,34 +11,8 @@ use Rattle.layout.specs.declared.velocity.VelocityKind.{VelocityKind}
 use Rattle.layout.specs.declared.velocity.VelocityKind.the-variants.{Nothing, Horizontal, HorizontalVertical, HorizontalUncertain, HorizontalVerticalUncertain}
 use Rattle.layout.specs.declared.velocity.Velocity.{Velocity}
 use Rattle.layout.specs.declared.velocity.VelocityRead.{VelocityRead}
-use Rattle.layout.specs.Layout.{
-  MessageField,
-  typeNumber,
-  count,
-  south,
-  latitude,
-  longitude,
-  depth,
-  altitude,
-  uncertainty,
-  semiMajor,
-  semiMinor,
-  orientation,
-  altitudeUncertainty,
-  confidence,
-  innerRadius,
-  offset,
-  included,
-  bearing,
-  horizontalSpeed,
-  down,
-  verticalSpeed,
-  speedUncertainty,
-  verticalUncertainty,
-  Row,
-  velocityRows,
-  velocityTypeOf,
-}
+use Rattle.layout.specs.Layout.{MessageField, Row, velocityRows, velocityTypeOf}
+use Rattle.layout.specs.Layout as layout
 use Rattle.layout.specs.Rows.{read}
 use Rattle.layout.specs.Demands.{ReadAnswer, Writes}
 
@@ -51,39 +25,39 @@ velocityKindOf n = getD (Horizontal ∷ HorizontalVertical ∷ HorizontalUncerta
 abbrev pub velocityOf : VelocityKind → (MessageField → ℕ) → Velocity
 velocityOf k value = record {
   kind = k;
-  bearing = record { 0 = value bearing };
-  «horizontal_speed» = record { 0 = value horizontalSpeed };
-  «vertical_speed» = record { 0 = signOf (value down); 1 = value verticalSpeed };
-  uncertainty = record { 0 = value speedUncertainty };
-  «vertical_uncertainty» = record { 0 = value verticalUncertainty };
+  bearing = record { 0 = value layout.bearing };
+  «horizontal_speed» = record { 0 = value layout.horizontalSpeed };
+  «vertical_speed» = record { 0 = signOf (value layout.down); 1 = value layout.verticalSpeed };
+  uncertainty = record { 0 = value layout.speedUncertainty };
+  «vertical_uncertainty» = record { 0 = value layout.verticalUncertainty };
 }
 
 abbrev pub blankVelocity : VelocityKind → Velocity
 blankVelocity k = velocityOf k (λ f. 0)
 
 abbrev pub velocityValueOf : Velocity → MessageField → ℕ
-velocityValueOf x typeNumber = velocityTypeOf (x .kind)
-velocityValueOf x bearing = x .bearing .0
-velocityValueOf x horizontalSpeed = x .«horizontal_speed» .0
-velocityValueOf x down = bitOf (x .«vertical_speed» .0)
-velocityValueOf x verticalSpeed = x .«vertical_speed» .1
-velocityValueOf x speedUncertainty = x .uncertainty .0
-velocityValueOf x verticalUncertainty = x .«vertical_uncertainty» .0
-velocityValueOf x count = 0
-velocityValueOf x (south i) = 0
-velocityValueOf x (latitude i) = 0
-velocityValueOf x (longitude i) = 0
-velocityValueOf x depth = 0
-velocityValueOf x altitude = 0
-velocityValueOf x uncertainty = 0
-velocityValueOf x semiMajor = 0
-velocityValueOf x semiMinor = 0
-velocityValueOf x orientation = 0
-velocityValueOf x altitudeUncertainty = 0
-velocityValueOf x confidence = 0
-velocityValueOf x innerRadius = 0
-velocityValueOf x offset = 0
-velocityValueOf x included = 0
+velocityValueOf x layout.typeNumber = velocityTypeOf (x .kind)
+velocityValueOf x layout.bearing = x .bearing .0
+velocityValueOf x layout.horizontalSpeed = x .«horizontal_speed» .0
+velocityValueOf x layout.down = bitOf (x .«vertical_speed» .0)
+velocityValueOf x layout.verticalSpeed = x .«vertical_speed» .1
+velocityValueOf x layout.speedUncertainty = x .uncertainty .0
+velocityValueOf x layout.verticalUncertainty = x .«vertical_uncertainty» .0
+velocityValueOf x layout.count = 0
+velocityValueOf x (layout.south i) = 0
+velocityValueOf x (layout.latitude i) = 0
+velocityValueOf x (layout.longitude i) = 0
+velocityValueOf x layout.depth = 0
+velocityValueOf x layout.altitude = 0
+velocityValueOf x layout.uncertainty = 0
+velocityValueOf x layout.semiMajor = 0
+velocityValueOf x layout.semiMinor = 0
+velocityValueOf x layout.orientation = 0
+velocityValueOf x layout.altitudeUncertainty = 0
+velocityValueOf x layout.confidence = 0
+velocityValueOf x layout.innerRadius = 0
+velocityValueOf x layout.offset = 0
+velocityValueOf x layout.included = 0
 
 -- ---- the promises
 

@@ -12,7 +12,8 @@ use Rattle.ground.specs.declared.refusals.Outcome.{Outcome}
 use Rattle.ground.specs.declared.refusals.Outcome.the-variants.{Done, Refused}
 use Rattle.ground.proofs.AnswerLaws.{not-0}
 use Rattle.layout.specs.declared.Written.{Written}
-use Rattle.layout.specs.Layout.{MessageField, Row, count, orientation, offset, included, bearing, confidence}
+use Rattle.layout.specs.Layout.{MessageField, Row}
+use Rattle.layout.specs.Layout as layout
 use Rattle.layout.specs.Rows.{tag, widthOf, lengthOf, message}
 use Rattle.layout.specs.Demands.{TypeKnown, CountSound, AnglesSound, ConfidenceSound, InFields, WriteAnswer, Writes}
 use Rattle.code_arrays.specs.CodeNumbers.{capped}
@@ -74,15 +75,15 @@ turned c = record { below = c .below-back; below-back = c .below; from = c .from
 pub record Alike (rows rows′ : List Row) (value value′ : MessageField → ℕ) : Type 0 where
   pub listed : TypeKnown rows → TypeKnown rows′
   pub listed-back : TypeKnown rows′ → TypeKnown rows
-  pub count-width : widthOf rows count ≡ widthOf rows′ count
+  pub count-width : widthOf rows layout.count ≡ widthOf rows′ layout.count
   pub widths : (f : MessageField) → 2 ≤ tag f → tag f < 22 → widthOf rows f ≡ widthOf rows′ f
-  pub least : Cut 3 (value count) (value′ count)
-  pub most : Cut 16 (value count) (value′ count)
-  pub orientations : Cut 180 (value orientation) (value′ orientation)
-  pub offsets : Cut 180 (value offset) (value′ offset)
-  pub includeds : Cut 180 (value included) (value′ included)
-  pub bearings : Cut 360 (value bearing) (value′ bearing)
-  pub confidences : Cut 101 (value confidence) (value′ confidence)
+  pub least : Cut 3 (value layout.count) (value′ layout.count)
+  pub most : Cut 16 (value layout.count) (value′ layout.count)
+  pub orientations : Cut 180 (value layout.orientation) (value′ layout.orientation)
+  pub offsets : Cut 180 (value layout.offset) (value′ layout.offset)
+  pub includeds : Cut 180 (value layout.included) (value′ layout.included)
+  pub bearings : Cut 360 (value layout.bearing) (value′ layout.bearing)
+  pub confidences : Cut 101 (value layout.confidence) (value′ layout.confidence)
 
 alike-back : {rows rows′ : List Row} {value value′ : MessageField → ℕ} → Alike rows rows′ value value′ → Alike rows′ rows value′ value
 alike-back a = record {
@@ -111,14 +112,14 @@ module _ {rows rows′ : List Row} {value value′ : MessageField → ℕ} (a : 
 
   angles : AnglesSound rows value → AnglesSound rows′ value′
   angles s = record {
-    orientations = λ u. a .orientations .below (s .orientations (used orientation (omega arith) (omega arith) u));
-    offsets = λ u. a .offsets .below (s .offsets (used offset (omega arith) (omega arith) u));
-    includeds = λ u. a .includeds .below (s .includeds (used included (omega arith) (omega arith) u));
-    bearings = λ u. a .bearings .below (s .bearings (used bearing (omega arith) (omega arith) u));
+    orientations = λ u. a .orientations .below (s .orientations (used layout.orientation (omega arith) (omega arith) u));
+    offsets = λ u. a .offsets .below (s .offsets (used layout.offset (omega arith) (omega arith) u));
+    includeds = λ u. a .includeds .below (s .includeds (used layout.included (omega arith) (omega arith) u));
+    bearings = λ u. a .bearings .below (s .bearings (used layout.bearing (omega arith) (omega arith) u));
   }
 
   sure : ConfidenceSound rows value → ConfidenceSound rows′ value′
-  sure s = record { confidences = λ u. a .confidences .below (s .confidences (used confidence (omega arith) (omega arith) u)) }
+  sure s = record { confidences = λ u. a .confidences .below (s .confidences (used layout.confidence (omega arith) (omega arith) u)) }
 
 -- ---- what is in no fields is refused with 7, where nothing comes before it
 

@@ -6,34 +6,8 @@ use native.Mathlib.Omega.{arith}
 use Rattle.ground.specs.Answers.{outcomeNumber}
 use Rattle.ground.specs.declared.refusals.Outcome.{Outcome}
 use Rattle.layout.specs.declared.Written.{Written}
-use Rattle.layout.specs.Layout.{
-  MessageField,
-  typeNumber,
-  count,
-  south,
-  latitude,
-  longitude,
-  depth,
-  altitude,
-  uncertainty,
-  semiMajor,
-  semiMinor,
-  orientation,
-  altitudeUncertainty,
-  confidence,
-  innerRadius,
-  offset,
-  included,
-  bearing,
-  horizontalSpeed,
-  down,
-  verticalSpeed,
-  speedUncertainty,
-  verticalUncertainty,
-  Row,
-  velocityRows,
-  velocityTypeOf,
-}
+use Rattle.layout.specs.Layout.{MessageField, Row, velocityRows, velocityTypeOf}
+use Rattle.layout.specs.Layout as layout
 use Rattle.layout.specs.Rows.{lengthOf}
 use Rattle.layout.specs.Demands.{TypeKnown, InFields, WriteAnswer, Writes}
 use Rattle.layout.specs.Velocities.{velocityKindOf, velocityOf, velocityValueOf, WritesVelocity}
@@ -58,28 +32,28 @@ module _ (elements : List ℕ) where
 
   module _ (whole : WholeVelocity elements) where
     value-held : TypeKnown (arrayVelocityRows elements) → (f : MessageField) → velocityValueOf (heldVelocity elements) f ≡ velocityValueIn elements f
-    value-held l typeNumber = ap velocityTypeOf (kind-held (elementAt elements 0)) ∙ type-back (elementAt elements 0) l
-    value-held l bearing = sym (under (whole .turn))
-    value-held l horizontalSpeed = sym (under (whole .horizontal))
-    value-held l down = bit-back (elementAt elements 3) (omega arith)
-    value-held l verticalSpeed = sym (under (whole .vertical))
-    value-held l speedUncertainty = sym (under (whole .speed))
-    value-held l verticalUncertainty = sym (under (whole .vertical-speed))
-    value-held l count = refl
-    value-held l (south i) = refl
-    value-held l (latitude i) = refl
-    value-held l (longitude i) = refl
-    value-held l depth = refl
-    value-held l altitude = refl
-    value-held l uncertainty = refl
-    value-held l semiMajor = refl
-    value-held l semiMinor = refl
-    value-held l orientation = refl
-    value-held l altitudeUncertainty = refl
-    value-held l confidence = refl
-    value-held l innerRadius = refl
-    value-held l offset = refl
-    value-held l included = refl
+    value-held l layout.typeNumber = ap velocityTypeOf (kind-held (elementAt elements 0)) ∙ type-back (elementAt elements 0) l
+    value-held l layout.bearing = sym (under (whole .turn))
+    value-held l layout.horizontalSpeed = sym (under (whole .horizontal))
+    value-held l layout.down = bit-back (elementAt elements 3) (omega arith)
+    value-held l layout.verticalSpeed = sym (under (whole .vertical))
+    value-held l layout.speedUncertainty = sym (under (whole .speed))
+    value-held l layout.verticalUncertainty = sym (under (whole .vertical-speed))
+    value-held l layout.count = refl
+    value-held l (layout.south i) = refl
+    value-held l (layout.latitude i) = refl
+    value-held l (layout.longitude i) = refl
+    value-held l layout.depth = refl
+    value-held l layout.altitude = refl
+    value-held l layout.uncertainty = refl
+    value-held l layout.semiMajor = refl
+    value-held l layout.semiMinor = refl
+    value-held l layout.orientation = refl
+    value-held l layout.altitudeUncertainty = refl
+    value-held l layout.confidence = refl
+    value-held l layout.innerRadius = refl
+    value-held l layout.offset = refl
+    value-held l layout.included = refl
 
     pub held-velocity-writes : (before after : List ℕ) (w : Written) → WritesVelocity (heldVelocity elements) before after w → Writes (arrayVelocityRows elements) (velocityValueIn elements) before after w
     held-velocity-writes before after w h =
@@ -117,12 +91,12 @@ module _ (elements : List ℕ) where
   whole-of h =
       let code : (f : MessageField) → velocityValueIn elements f < 2 ^ velocityWidest f = velocity-code-of (velocityKindOf (elementAt elements 0)) (velocityValueIn elements) h in
       record {
-        turn = omega (arith, code bearing);
-        horizontal = omega (arith, code horizontalSpeed);
-        direction = omega (arith, code down);
-        vertical = omega (arith, code verticalSpeed);
-        speed = omega (arith, code speedUncertainty);
-        vertical-speed = omega (arith, code verticalUncertainty);
+        turn = omega (arith, code layout.bearing);
+        horizontal = omega (arith, code layout.horizontalSpeed);
+        direction = omega (arith, code layout.down);
+        vertical = omega (arith, code layout.verticalSpeed);
+        speed = omega (arith, code layout.speedUncertainty);
+        vertical-speed = omega (arith, code layout.verticalUncertainty);
       }
 
   pub held-velocity-misfit : (WholeVelocity elements → ⊥) → (o : Outcome) (room : ℕ) → WriteAnswer (velocityRows (heldVelocity elements .kind)) (velocityValueOf (heldVelocity elements)) (lengthOf (velocityRows (heldVelocity elements .kind))) (outcomeNumber o)

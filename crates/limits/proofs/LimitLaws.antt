@@ -14,66 +14,20 @@ use borrow.Author.Tests.{ltb-true, ltb-false}
 use Rattle.octets.specs.Codes.{complement}
 use Rattle.layout.specs.declared.shape.Kind.{Kind}
 use Rattle.layout.specs.declared.shape.Kind.the-variants.{Nothing, Point, Circle, Ellipse, Polygon, AltitudePoint, AltitudeEllipsoid, Arc}
-use Rattle.layout.specs.Layout.{
-  MessageField,
-  typeNumber,
-  count,
-  south,
-  latitude,
-  longitude,
-  depth,
-  altitude,
-  uncertainty,
-  semiMajor,
-  semiMinor,
-  orientation,
-  altitudeUncertainty,
-  confidence,
-  innerRadius,
-  offset,
-  included,
-  bearing,
-  horizontalSpeed,
-  down,
-  verticalSpeed,
-  speedUncertainty,
-  verticalUncertainty,
-  shapeRows,
-}
+use Rattle.layout.specs.Layout.{MessageField, shapeRows}
+use Rattle.layout.specs.Layout as layout
 use Rattle.layout.specs.Rows.{tag, widthOf}
 use Rattle.layout.specs.Demands.{InFields}
 use Rattle.layout.proofs.PolygonLaws.{point-row}
-use Rattle.layout.proofs.KindLaws.{pointsOf, point-width, no-point-width, fixed-width}
+use Rattle.layout.proofs.KindLaws.{pointsOf, type-width, count-width, point-width, no-point-width, fixed-width}
 use Rattle.layout.proofs.MessageLaws.{Position}
 use Rattle.code_arrays.specs.CodeNumbers.{elementAt, fromBits}
 use Rattle.code_arrays.specs.Shapes.{valueIn, arrayKind}
 use Rattle.limits.specs.Limits.{ElementsInFields, singleFields, numbersIn, largestOf, Within, NoCodesFrom, PointsWithin}
 use Rattle.code_arrays.proofs.ArrayLaws.{same-element, no-element, south-element, latitude-element, longitude-element}
 
--- ---- widths that don't depend on the count
-
-type-width : (k : Kind) (n : ℕ) → widthOf (shapeRows k n) typeNumber ≡ widthOf (shapeRows k 0) typeNumber
-type-width Nothing n = refl
-type-width Point n = refl
-type-width Circle n = refl
-type-width Ellipse n = refl
-type-width Polygon n = refl
-type-width AltitudePoint n = refl
-type-width AltitudeEllipsoid n = refl
-type-width Arc n = refl
-
-pub count-width : (k : Kind) (n : ℕ) → widthOf (shapeRows k n) count ≡ widthOf (shapeRows k 0) count
-count-width Nothing n = refl
-count-width Point n = refl
-count-width Circle n = refl
-count-width Ellipse n = refl
-count-width Polygon n = refl
-count-width AltitudePoint n = refl
-count-width AltitudeEllipsoid n = refl
-count-width Arc n = refl
-
 -- a count in its field: at most 15, and zero where there are no points
-most : (k : Kind) (m : ℕ) → m < 2 ^ widthOf (shapeRows k 0) count → m ≤ 15
+most : (k : Kind) (m : ℕ) → m < 2 ^ widthOf (shapeRows k 0) layout.count → m ≤ 15
 most Nothing m h = omega arith
 most Point m h = omega arith
 most Circle m h = omega arith
@@ -83,7 +37,7 @@ most AltitudePoint m h = omega arith
 most AltitudeEllipsoid m h = omega arith
 most Arc m h = omega arith
 
-used : (k : Kind) (m : ℕ) → m < 2 ^ widthOf (shapeRows k 0) count → pointsOf k m ≡ m
+used : (k : Kind) (m : ℕ) → m < 2 ^ widthOf (shapeRows k 0) layout.count → pointsOf k m ≡ m
 used Nothing m h = omega arith
 used Point m h = omega arith
 used Circle m h = omega arith
@@ -95,9 +49,9 @@ used Arc m h = omega arith
 
 -- a point after the last has no bits
 no-bits : (k : Kind) (n r i : ℕ) → pointsOf k n ≤ i → widthOf (shapeRows k n) (point-row r i .field) ≡ 0
-no-bits k n zero i h = no-point-width k n (south (suc i)) (omega arith) (omega arith)
-no-bits k n (suc zero) i h = no-point-width k n (latitude (suc i)) (omega arith) (omega arith)
-no-bits k n (suc (suc r)) i h = no-point-width k n (longitude (suc i)) (omega arith) (omega arith)
+no-bits k n zero i h = no-point-width k n (layout.south (suc i)) (omega arith) (omega arith)
+no-bits k n (suc zero) i h = no-point-width k n (layout.latitude (suc i)) (omega arith) (omega arith)
+no-bits k n (suc (suc r)) i h = no-point-width k n (layout.longitude (suc i)) (omega arith) (omega arith)
 
 -- what holds of each of these fields holds at each place of the arrays
 abbrev Each : (MessageField → Type 0) → List MessageField → Type 0
@@ -111,14 +65,14 @@ at-each v w (f ∷ fs) a (suc i) h = at-each v w fs (a .1) i (omega arith)
 
 -- the fields of velocities
 abbrev velocityFields : List MessageField
-velocityFields = bearing ∷ horizontalSpeed ∷ down ∷ verticalSpeed ∷ speedUncertainty ∷ verticalUncertainty ∷ []
+velocityFields = layout.bearing ∷ layout.horizontalSpeed ∷ layout.down ∷ layout.verticalSpeed ∷ layout.speedUncertainty ∷ layout.verticalUncertainty ∷ []
 
 -- ---- any numbers
 
 module _ (k : Kind) (n : ℕ) (value : MessageField → ℕ) where
   module _ (h : InFields (shapeRows k n) value) where
-    counted : value count < 2 ^ widthOf (shapeRows k 0) count
-    counted = rw (count-width k n) at (h .each count)
+    counted : value layout.count < 2 ^ widthOf (shapeRows k 0) layout.count
+    counted = rw (count-width k n) at (h .each layout.count)
 
     fixed : (f : MessageField) → 2 ≤ tag f → tag f < 22 → value f < 2 ^ widthOf (shapeRows k 0) f
     fixed f a b = rw (fixed-width k n f a b) at (h .each f)
@@ -126,36 +80,36 @@ module _ (k : Kind) (n : ℕ) (value : MessageField → ℕ) where
     pub singles-within : Within (map value singleFields) (largestOf k)
     singles-within =
         at-each value (widthOf (shapeRows k 0)) singleFields (
-          rw (type-width k n) at (h .each typeNumber),
+          rw (type-width k n) at (h .each layout.typeNumber),
           (
             counted,
             (
-              fixed (south 0) (omega arith) (omega arith),
+              fixed (layout.south 0) (omega arith) (omega arith),
               (
-                fixed (latitude 0) (omega arith) (omega arith),
+                fixed (layout.latitude 0) (omega arith) (omega arith),
                 (
-                  fixed (longitude 0) (omega arith) (omega arith),
+                  fixed (layout.longitude 0) (omega arith) (omega arith),
                   (
-                    fixed depth (omega arith) (omega arith),
+                    fixed layout.depth (omega arith) (omega arith),
                     (
-                      fixed altitude (omega arith) (omega arith),
+                      fixed layout.altitude (omega arith) (omega arith),
                       (
-                        fixed uncertainty (omega arith) (omega arith),
+                        fixed layout.uncertainty (omega arith) (omega arith),
                         (
-                          fixed semiMajor (omega arith) (omega arith),
+                          fixed layout.semiMajor (omega arith) (omega arith),
                           (
-                            fixed semiMinor (omega arith) (omega arith),
+                            fixed layout.semiMinor (omega arith) (omega arith),
                             (
-                              fixed orientation (omega arith) (omega arith),
+                              fixed layout.orientation (omega arith) (omega arith),
                               (
-                                fixed altitudeUncertainty (omega arith) (omega arith),
+                                fixed layout.altitudeUncertainty (omega arith) (omega arith),
                                 (
-                                  fixed innerRadius (omega arith) (omega arith),
+                                  fixed layout.innerRadius (omega arith) (omega arith),
                                   (
-                                    fixed offset (omega arith) (omega arith),
+                                    fixed layout.offset (omega arith) (omega arith),
                                     (
-                                      fixed included (omega arith) (omega arith),
-                                      (fixed confidence (omega arith) (omega arith), tt),
+                                      fixed layout.included (omega arith) (omega arith),
+                                      (fixed layout.confidence (omega arith) (omega arith), tt),
                                     ),
                                   ),
                                 ),
@@ -186,11 +140,11 @@ module _ (k : Kind) (n : ℕ) (value : MessageField → ℕ) where
   -- ---- and back
 
   module _ (h : Within (map value singleFields) (largestOf k)) where
-    count-back : value count < 2 ^ widthOf (shapeRows k 0) count
-    count-back = lt-of-le-ones (widthOf (shapeRows k 0) count) (h 1 (omega arith))
+    count-back : value layout.count < 2 ^ widthOf (shapeRows k 0) layout.count
+    count-back = lt-of-le-ones (widthOf (shapeRows k 0) layout.count) (h 1 (omega arith))
 
-    pub count-narrow : value count ≤ 15
-    count-narrow = most k (value count) count-back
+    pub count-narrow : value layout.count ≤ 15
+    count-narrow = most k (value layout.count) count-back
 
     fixed-back : (f : MessageField) → 2 ≤ tag f → tag f < 22 → value f ≤ 2 ^ widthOf (shapeRows k 0) f - 1 → value f < 2 ^ widthOf (shapeRows k n) f
     fixed-back f a b l = rw (fixed-width k n f a b) (lt-of-le-ones (widthOf (shapeRows k 0) f) l)
@@ -210,31 +164,31 @@ module _ (k : Kind) (n : ℕ) (value : MessageField → ℕ) where
           by false e = zero-back (point-row r i .field) (none r i (ltb-false _ _ e))
 
       each : (f : MessageField) → value f < 2 ^ widthOf (shapeRows k n) f
-      each typeNumber = rw (type-width k n) (lt-of-le-ones (widthOf (shapeRows k 0) typeNumber) (h 0 (omega arith)))
-      each count = rw (count-width k n) count-back
-      each (south zero) = fixed-back (south 0) (omega arith) (omega arith) (h 2 (omega arith))
-      each (latitude zero) = fixed-back (latitude 0) (omega arith) (omega arith) (h 3 (omega arith))
-      each (longitude zero) = fixed-back (longitude 0) (omega arith) (omega arith) (h 4 (omega arith))
-      each depth = fixed-back depth (omega arith) (omega arith) (h 5 (omega arith))
-      each altitude = fixed-back altitude (omega arith) (omega arith) (h 6 (omega arith))
-      each uncertainty = fixed-back uncertainty (omega arith) (omega arith) (h 7 (omega arith))
-      each semiMajor = fixed-back semiMajor (omega arith) (omega arith) (h 8 (omega arith))
-      each semiMinor = fixed-back semiMinor (omega arith) (omega arith) (h 9 (omega arith))
-      each orientation = fixed-back orientation (omega arith) (omega arith) (h 10 (omega arith))
-      each altitudeUncertainty = fixed-back altitudeUncertainty (omega arith) (omega arith) (h 11 (omega arith))
-      each innerRadius = fixed-back innerRadius (omega arith) (omega arith) (h 12 (omega arith))
-      each offset = fixed-back offset (omega arith) (omega arith) (h 13 (omega arith))
-      each included = fixed-back included (omega arith) (omega arith) (h 14 (omega arith))
-      each confidence = fixed-back confidence (omega arith) (omega arith) (h 15 (omega arith))
-      each (south (suc i)) = point-back 0 i
-      each (latitude (suc i)) = point-back 1 i
-      each (longitude (suc i)) = point-back 2 i
-      each bearing = zero-back bearing (still .0)
-      each horizontalSpeed = zero-back horizontalSpeed (still .1 .0)
-      each down = zero-back down (still .1 .1 .0)
-      each verticalSpeed = zero-back verticalSpeed (still .1 .1 .1 .0)
-      each speedUncertainty = zero-back speedUncertainty (still .1 .1 .1 .1 .0)
-      each verticalUncertainty = zero-back verticalUncertainty (still .1 .1 .1 .1 .1 .0)
+      each layout.typeNumber = rw (type-width k n) (lt-of-le-ones (widthOf (shapeRows k 0) layout.typeNumber) (h 0 (omega arith)))
+      each layout.count = rw (count-width k n) count-back
+      each (layout.south zero) = fixed-back (layout.south 0) (omega arith) (omega arith) (h 2 (omega arith))
+      each (layout.latitude zero) = fixed-back (layout.latitude 0) (omega arith) (omega arith) (h 3 (omega arith))
+      each (layout.longitude zero) = fixed-back (layout.longitude 0) (omega arith) (omega arith) (h 4 (omega arith))
+      each layout.depth = fixed-back layout.depth (omega arith) (omega arith) (h 5 (omega arith))
+      each layout.altitude = fixed-back layout.altitude (omega arith) (omega arith) (h 6 (omega arith))
+      each layout.uncertainty = fixed-back layout.uncertainty (omega arith) (omega arith) (h 7 (omega arith))
+      each layout.semiMajor = fixed-back layout.semiMajor (omega arith) (omega arith) (h 8 (omega arith))
+      each layout.semiMinor = fixed-back layout.semiMinor (omega arith) (omega arith) (h 9 (omega arith))
+      each layout.orientation = fixed-back layout.orientation (omega arith) (omega arith) (h 10 (omega arith))
+      each layout.altitudeUncertainty = fixed-back layout.altitudeUncertainty (omega arith) (omega arith) (h 11 (omega arith))
+      each layout.innerRadius = fixed-back layout.innerRadius (omega arith) (omega arith) (h 12 (omega arith))
+      each layout.offset = fixed-back layout.offset (omega arith) (omega arith) (h 13 (omega arith))
+      each layout.included = fixed-back layout.included (omega arith) (omega arith) (h 14 (omega arith))
+      each layout.confidence = fixed-back layout.confidence (omega arith) (omega arith) (h 15 (omega arith))
+      each (layout.south (suc i)) = point-back 0 i
+      each (layout.latitude (suc i)) = point-back 1 i
+      each (layout.longitude (suc i)) = point-back 2 i
+      each layout.bearing = zero-back layout.bearing (still .0)
+      each layout.horizontalSpeed = zero-back layout.horizontalSpeed (still .1 .0)
+      each layout.down = zero-back layout.down (still .1 .1 .0)
+      each layout.verticalSpeed = zero-back layout.verticalSpeed (still .1 .1 .1 .0)
+      each layout.speedUncertainty = zero-back layout.speedUncertainty (still .1 .1 .1 .1 .0)
+      each layout.verticalUncertainty = zero-back layout.verticalUncertainty (still .1 .1 .1 .1 .1 .0)
 
       pub in-fields : InFields (shapeRows k n) value
       in-fields = record { each = each }
@@ -274,42 +228,42 @@ module _ (elements : List ℕ) where
   element-none (suc (suc (suc r))) i h l e = absurd (omega arith)
 
   module _ (h : ElementsInFields elements) where
-    points-used : pointsOf (arrayKind elements) (valueIn elements count) ≡ valueIn elements count
-    points-used = used (arrayKind elements) (valueIn elements count) (counted (arrayKind elements) (valueIn elements count) (valueIn elements) h)
+    points-used : pointsOf (arrayKind elements) (valueIn elements layout.count) ≡ valueIn elements layout.count
+    points-used = used (arrayKind elements) (valueIn elements layout.count) (counted (arrayKind elements) (valueIn elements layout.count) (valueIn elements) h)
 
-    none-from : NoCodesFrom elements (16 + 3 * valueIn elements count)
+    none-from : NoCodesFrom elements (16 + 3 * valueIn elements layout.count)
     none-from at l m =
         let e : 16 + 3 * ((at - 16) / 3) + (at - 16) % 3 ≡ at = omega arith in
-        rw e at (element-none ((at - 16) % 3) ((at - 16) / 3) (omega arith) (omega arith) (no-number (arrayKind elements) (valueIn elements count) (valueIn elements) h ((at - 16) % 3) ((at - 16) / 3) (omega (arith, points-used))))
+        rw e at (element-none ((at - 16) % 3) ((at - 16) / 3) (omega arith) (omega arith) (no-number (arrayKind elements) (valueIn elements layout.count) (valueIn elements) h ((at - 16) % 3) ((at - 16) / 3) (omega (arith, points-used))))
 
-    pub elements-points : PointsWithin elements (valueIn elements count)
+    pub elements-points : PointsWithin elements (valueIn elements layout.count)
     elements-points = record {
-      used = λ i l. let p = points-within (arrayKind elements) (valueIn elements count) (valueIn elements) h i (omega (arith, points-used)) in record { sign = p .sign; size = p .size; turn = p .turn };
+      used = λ i l. let p = points-within (arrayKind elements) (valueIn elements layout.count) (valueIn elements) h i (omega (arith, points-used)) in record { sign = p .sign; size = p .size; turn = p .turn };
       none = none-from;
     }
 
-  module _ (h : Within (numbersIn elements) (largestOf (arrayKind elements))) (p : PointsWithin elements (valueIn elements count)) where
-    none-at : (i : ℕ) → 16 + 3 * valueIn elements count ≤ i → elementAt (take 61 elements) i ≡ 0
+  module _ (h : Within (numbersIn elements) (largestOf (arrayKind elements))) (p : PointsWithin elements (valueIn elements layout.count)) where
+    none-at : (i : ℕ) → 16 + 3 * valueIn elements layout.count ≤ i → elementAt (take 61 elements) i ≡ 0
     none-at i l = by (ltb i 61) refl
       where
         by : (t : Bool) → ltb i 61 ≡ t → elementAt (take 61 elements) i ≡ 0
         by true e = sym (same-element elements i (ltb-true _ _ e)) ∙ p .none i l (ltb-true _ _ e)
         by false e = sym (no-element elements i (ltb-false _ _ e))
 
-    used-back : pointsOf (arrayKind elements) (valueIn elements count) ≡ valueIn elements count
-    used-back = used (arrayKind elements) (valueIn elements count) (count-back (arrayKind elements) (valueIn elements count) (valueIn elements) h)
+    used-back : pointsOf (arrayKind elements) (valueIn elements layout.count) ≡ valueIn elements layout.count
+    used-back = used (arrayKind elements) (valueIn elements layout.count) (count-back (arrayKind elements) (valueIn elements layout.count) (valueIn elements) h)
 
-    point-at : (r i : ℕ) → i < valueIn elements count → valueIn elements (point-row r i .field) < 2 ^ point-row r i .width
+    point-at : (r i : ℕ) → i < valueIn elements layout.count → valueIn elements (point-row r i .field) < 2 ^ point-row r i .width
     point-at zero i l = p .used i l .sign
     point-at (suc zero) i l = p .used i l .size
     point-at (suc (suc r)) i l = p .used i l .turn
 
-    no-point-at : (r i : ℕ) → valueIn elements count ≤ i → valueIn elements (point-row r i .field) ≡ 0
+    no-point-at : (r i : ℕ) → valueIn elements layout.count ≤ i → valueIn elements (point-row r i .field) ≡ 0
     no-point-at zero i l = none-at (16 + 3 * i) (omega arith)
     no-point-at (suc zero) i l = none-at (17 + 3 * i) (omega arith)
     no-point-at (suc (suc r)) i l = ap (λ (n : ℕ). complement (fromBits n)) (none-at (18 + 3 * i) (omega arith))
 
     pub elements-in-fields : ElementsInFields elements
     elements-in-fields =
-        in-fields (arrayKind elements) (valueIn elements count) (valueIn elements) h (λ r i l. point-at r i (omega (arith, used-back))) (λ r i l. no-point-at r i (omega (arith, used-back)))
+        in-fields (arrayKind elements) (valueIn elements layout.count) (valueIn elements) h (λ r i l. point-at r i (omega (arith, used-back))) (λ r i l. no-point-at r i (omega (arith, used-back)))
         (refl, (refl, (refl, (refl, (refl, (refl, tt))))))

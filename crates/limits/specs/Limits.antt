@@ -4,26 +4,8 @@ use mathlib.Core.List.{List, [], _∷_, map}
 use Prim.Native.Nat.{ℕ, suc, _+_, _-_, _*_, _^_, _≤_, _<_}
 use lib.ListN.{getD}
 use Rattle.layout.specs.declared.shape.Kind.{Kind}
-use Rattle.layout.specs.Layout.{
-  MessageField,
-  typeNumber,
-  count,
-  south,
-  latitude,
-  longitude,
-  depth,
-  altitude,
-  uncertainty,
-  semiMajor,
-  semiMinor,
-  orientation,
-  altitudeUncertainty,
-  confidence,
-  innerRadius,
-  offset,
-  included,
-  shapeRows,
-}
+use Rattle.layout.specs.Layout.{MessageField, shapeRows}
+use Rattle.layout.specs.Layout as layout
 use Rattle.layout.specs.Rows.{widthOf}
 use Rattle.layout.specs.Demands.{InFields}
 use Rattle.code_arrays.specs.CodeNumbers.{elementAt}
@@ -35,7 +17,7 @@ ElementsInFields elements = InFields (arrayRows elements) (valueIn elements)
 -- the fields that are no polygon point's, in the order of the elements
 abbrev pub singleFields : List MessageField
 singleFields =
-    typeNumber ∷ count ∷ south 0 ∷ latitude 0 ∷ longitude 0 ∷ depth ∷ altitude ∷ uncertainty ∷ semiMajor ∷ semiMinor ∷ orientation ∷ altitudeUncertainty ∷ innerRadius ∷ offset ∷ included ∷ confidence ∷ []
+    layout.typeNumber ∷ layout.count ∷ layout.south 0 ∷ layout.latitude 0 ∷ layout.longitude 0 ∷ layout.depth ∷ layout.altitude ∷ layout.uncertainty ∷ layout.semiMajor ∷ layout.semiMinor ∷ layout.orientation ∷ layout.altitudeUncertainty ∷ layout.innerRadius ∷ layout.offset ∷ layout.included ∷ layout.confidence ∷ []
 
 abbrev pub numbersIn : List ℕ → List ℕ
 numbersIn elements = map (valueIn elements) singleFields
@@ -55,9 +37,9 @@ Within numbers largest = (i : ℕ) → i < 16 → getD numbers i 0 ≤ getD larg
 
 -- the numbers of a point against 1, 23 and 24 bits
 pub record PointWithin (elements : List ℕ) (i : ℕ) : Type 0 where
-  pub sign : valueIn elements (south (suc i)) < 2
-  pub size : valueIn elements (latitude (suc i)) < 8388608
-  pub turn : valueIn elements (longitude (suc i)) < 16777216
+  pub sign : valueIn elements (layout.south (suc i)) < 2
+  pub size : valueIn elements (layout.latitude (suc i)) < 8388608
+  pub turn : valueIn elements (layout.longitude (suc i)) < 16777216
 
 abbrev pub UsedWithin : List ℕ → ℕ → Type 0
 UsedWithin elements n = (i : ℕ) → i < n → PointWithin elements i

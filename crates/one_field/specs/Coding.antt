@@ -13,41 +13,42 @@ use Rattle.one_field.specs.declared.coding.Unsigned.{Unsigned}
 use Rattle.one_field.specs.declared.coding.Unsigned.the-variants as unsigned
 use Rattle.one_field.specs.declared.coding.Markable.{Markable}
 use Rattle.one_field.specs.declared.coding.Markable.the-variants as markable
-use Rattle.fields.specs.Fields.{Field, latitude, longitude, uncertainty, altitudeUncertainty, altitude, innerRadius, offset, included, orientation, bearing, horizontalSpeed, verticalSpeed, uncertaintySpeed, confidence, CodeOf, QuantityOf, CodedOf, saidCode, Coding}
+use Rattle.fields.specs.Fields.{Field, CodeOf, QuantityOf, CodedOf, saidCode, Coding}
+use Rattle.fields.specs.Fields as field
 
 -- a code in plain numbers: a sign and a number, or one number
 abbrev pub saidCodeNumbers : (f : Field) → CodeOf f → SaidCode
-saidCodeNumbers latitude c = Signed (c .0) (c .1)
-saidCodeNumbers longitude c = Longitude c
-saidCodeNumbers uncertainty c = Natural (c .0)
-saidCodeNumbers altitudeUncertainty c = Natural (c .0)
-saidCodeNumbers altitude c = Signed (c .0) (c .1)
-saidCodeNumbers innerRadius c = Natural (c .0)
-saidCodeNumbers offset c = Natural (c .0)
-saidCodeNumbers included c = Natural (c .0)
-saidCodeNumbers orientation c = Natural (c .0)
-saidCodeNumbers bearing c = Natural (c .0)
-saidCodeNumbers horizontalSpeed c = Natural (c .0)
-saidCodeNumbers verticalSpeed c = Signed (c .0) (c .1)
-saidCodeNumbers uncertaintySpeed c = Natural (c .0)
-saidCodeNumbers confidence c = Natural (c .0)
+saidCodeNumbers field.latitude c = Signed (c .0) (c .1)
+saidCodeNumbers field.longitude c = Longitude c
+saidCodeNumbers field.uncertainty c = Natural (c .0)
+saidCodeNumbers field.altitudeUncertainty c = Natural (c .0)
+saidCodeNumbers field.altitude c = Signed (c .0) (c .1)
+saidCodeNumbers field.innerRadius c = Natural (c .0)
+saidCodeNumbers field.offset c = Natural (c .0)
+saidCodeNumbers field.included c = Natural (c .0)
+saidCodeNumbers field.orientation c = Natural (c .0)
+saidCodeNumbers field.bearing c = Natural (c .0)
+saidCodeNumbers field.horizontalSpeed c = Natural (c .0)
+saidCodeNumbers field.verticalSpeed c = Signed (c .0) (c .1)
+saidCodeNumbers field.uncertaintySpeed c = Natural (c .0)
+saidCodeNumbers field.confidence c = Natural (c .0)
 
 -- how many numbers it has
 abbrev pub countOf : Field → ℕ
-countOf latitude = 2
-countOf longitude = 1
-countOf uncertainty = 1
-countOf altitudeUncertainty = 1
-countOf altitude = 2
-countOf innerRadius = 1
-countOf offset = 1
-countOf included = 1
-countOf orientation = 1
-countOf bearing = 1
-countOf horizontalSpeed = 1
-countOf verticalSpeed = 2
-countOf uncertaintySpeed = 1
-countOf confidence = 1
+countOf field.latitude = 2
+countOf field.longitude = 1
+countOf field.uncertainty = 1
+countOf field.altitudeUncertainty = 1
+countOf field.altitude = 2
+countOf field.innerRadius = 1
+countOf field.offset = 1
+countOf field.included = 1
+countOf field.orientation = 1
+countOf field.bearing = 1
+countOf field.horizontalSpeed = 1
+countOf field.verticalSpeed = 2
+countOf field.uncertaintySpeed = 1
+countOf field.confidence = 1
 
 -- what a coder's answer says in plain numbers
 abbrev pub saidByCoder : (f : Field) → CodedOf f → SaidCode
@@ -60,21 +61,21 @@ pub record TellsCode (f : Field) (x : QuantityOf f) (r : SaidCode) : Type 0 wher
   pub told : r ≡ tells (saidCodeNumbers f) Refused said
 
 abbrev pub TellsCoordinate : Coordinate → Nanodegrees → SaidCode → Type 0
-TellsCoordinate coordinate.Latitude x r = TellsCode latitude x r
-TellsCoordinate coordinate.Longitude x r = TellsCode longitude x r
+TellsCoordinate coordinate.Latitude x r = TellsCode field.latitude x r
+TellsCoordinate coordinate.Longitude x r = TellsCode field.longitude x r
 
 abbrev pub TellsUnsigned : Unsigned → ℕ → SaidCode → Type 0
-TellsUnsigned unsigned.Uncertainty x r = TellsCode uncertainty (record { 0 = x }) r
-TellsUnsigned unsigned.AltitudeUncertainty x r = TellsCode altitudeUncertainty (record { 0 = x }) r
-TellsUnsigned unsigned.InnerRadius x r = TellsCode innerRadius (record { 0 = x }) r
-TellsUnsigned unsigned.Offset x r = TellsCode offset (record { 0 = x }) r
-TellsUnsigned unsigned.Included x r = TellsCode included (record { 0 = x }) r
-TellsUnsigned unsigned.Orientation x r = TellsCode orientation (record { 0 = x }) r
-TellsUnsigned unsigned.Bearing x r = TellsCode bearing (record { 0 = x }) r
-TellsUnsigned unsigned.HorizontalSpeed x r = TellsCode horizontalSpeed (record { 0 = x }) r
-TellsUnsigned unsigned.UncertaintySpeed x r = TellsCode uncertaintySpeed (uncertain.Speed (record { 0 = x })) r
-TellsUnsigned unsigned.Confidence x r = TellsCode confidence (confident.PerCent x) r
+TellsUnsigned unsigned.Uncertainty x r = TellsCode field.uncertainty (record { 0 = x }) r
+TellsUnsigned unsigned.AltitudeUncertainty x r = TellsCode field.altitudeUncertainty (record { 0 = x }) r
+TellsUnsigned unsigned.InnerRadius x r = TellsCode field.innerRadius (record { 0 = x }) r
+TellsUnsigned unsigned.Offset x r = TellsCode field.offset (record { 0 = x }) r
+TellsUnsigned unsigned.Included x r = TellsCode field.included (record { 0 = x }) r
+TellsUnsigned unsigned.Orientation x r = TellsCode field.orientation (record { 0 = x }) r
+TellsUnsigned unsigned.Bearing x r = TellsCode field.bearing (record { 0 = x }) r
+TellsUnsigned unsigned.HorizontalSpeed x r = TellsCode field.horizontalSpeed (record { 0 = x }) r
+TellsUnsigned unsigned.UncertaintySpeed x r = TellsCode field.uncertaintySpeed (uncertain.Speed (record { 0 = x })) r
+TellsUnsigned unsigned.Confidence x r = TellsCode field.confidence (confident.PerCent x) r
 
 abbrev pub TellsMissing : Markable → SaidCode → Type 0
-TellsMissing markable.UncertaintySpeed r = TellsCode uncertaintySpeed uncertain.Missing r
-TellsMissing markable.Confidence r = TellsCode confidence confident.Missing r
+TellsMissing markable.UncertaintySpeed r = TellsCode field.uncertaintySpeed uncertain.Missing r
+TellsMissing markable.Confidence r = TellsCode field.confidence confident.Missing r

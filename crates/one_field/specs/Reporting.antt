@@ -18,7 +18,8 @@ use Rattle.one_field.specs.declared.reporting.Word.{Word}
 use Rattle.one_field.specs.declared.reporting.Word.the-variants as word
 use Rattle.one_field.specs.declared.reporting.Signed.{Signed}
 use Rattle.one_field.specs.declared.reporting.Signed.the-variants as signed
-use Rattle.fields.specs.Fields.{Field, latitude, longitude, uncertainty, altitudeUncertainty, altitude, innerRadius, offset, included, orientation, bearing, horizontalSpeed, verticalSpeed, uncertaintySpeed, confidence, CodeOf, QuantityOf, Reporting}
+use Rattle.fields.specs.Fields.{Field, CodeOf, QuantityOf, Reporting}
+use Rattle.fields.specs.Fields as field
 
 abbrev pub saidLengthNumber : Millimetres → SaidQuantity
 saidLengthNumber x = Natural (x .0)
@@ -36,20 +37,20 @@ saidConfidenceNumber confident.Missing = Missing
 
 -- a quantity in plain numbers: its number, or the mark of a missing one
 abbrev pub saidQuantityNumber : (f : Field) → QuantityOf f → SaidQuantity
-saidQuantityNumber latitude x = Coordinate x
-saidQuantityNumber longitude x = Coordinate x
-saidQuantityNumber uncertainty x = saidLengthNumber x
-saidQuantityNumber altitudeUncertainty x = saidLengthNumber x
-saidQuantityNumber altitude x = Altitude x
-saidQuantityNumber innerRadius x = saidLengthNumber x
-saidQuantityNumber offset x = saidAngleNumber x
-saidQuantityNumber included x = saidAngleNumber x
-saidQuantityNumber orientation x = saidAngleNumber x
-saidQuantityNumber bearing x = saidAngleNumber x
-saidQuantityNumber horizontalSpeed x = Natural (x .0)
-saidQuantityNumber verticalSpeed x = VerticalSpeed x
-saidQuantityNumber uncertaintySpeed x = saidUncertaintySpeedNumber x
-saidQuantityNumber confidence x = saidConfidenceNumber x
+saidQuantityNumber field.latitude x = Coordinate x
+saidQuantityNumber field.longitude x = Coordinate x
+saidQuantityNumber field.uncertainty x = saidLengthNumber x
+saidQuantityNumber field.altitudeUncertainty x = saidLengthNumber x
+saidQuantityNumber field.altitude x = Altitude x
+saidQuantityNumber field.innerRadius x = saidLengthNumber x
+saidQuantityNumber field.offset x = saidAngleNumber x
+saidQuantityNumber field.included x = saidAngleNumber x
+saidQuantityNumber field.orientation x = saidAngleNumber x
+saidQuantityNumber field.bearing x = saidAngleNumber x
+saidQuantityNumber field.horizontalSpeed x = Natural (x .0)
+saidQuantityNumber field.verticalSpeed x = VerticalSpeed x
+saidQuantityNumber field.uncertaintySpeed x = saidUncertaintySpeedNumber x
+saidQuantityNumber field.confidence x = saidConfidenceNumber x
 
 -- r tells what a reporter that keeps its promise says of the code c
 pub record TellsQuantity (f : Field) (c : CodeOf f) (r : SaidQuantity) : Type 0 where
@@ -58,23 +59,23 @@ pub record TellsQuantity (f : Field) (c : CodeOf f) (r : SaidQuantity) : Type 0 
   pub told : r ≡ tells (saidQuantityNumber f) Refused said
 
 abbrev pub TellsByte : Byte → ℕ → SaidQuantity → Type 0
-TellsByte byte.Uncertainty n r = TellsQuantity uncertainty (record { 0 = n }) r
-TellsByte byte.AltitudeUncertainty n r = TellsQuantity altitudeUncertainty (record { 0 = n }) r
-TellsByte byte.Offset n r = TellsQuantity offset (record { 0 = n }) r
-TellsByte byte.Included n r = TellsQuantity included (record { 0 = n }) r
-TellsByte byte.Orientation n r = TellsQuantity orientation (record { 0 = n }) r
-TellsByte byte.UncertaintySpeed n r = TellsQuantity uncertaintySpeed (record { 0 = n }) r
-TellsByte byte.Confidence n r = TellsQuantity confidence (record { 0 = n }) r
+TellsByte byte.Uncertainty n r = TellsQuantity field.uncertainty (record { 0 = n }) r
+TellsByte byte.AltitudeUncertainty n r = TellsQuantity field.altitudeUncertainty (record { 0 = n }) r
+TellsByte byte.Offset n r = TellsQuantity field.offset (record { 0 = n }) r
+TellsByte byte.Included n r = TellsQuantity field.included (record { 0 = n }) r
+TellsByte byte.Orientation n r = TellsQuantity field.orientation (record { 0 = n }) r
+TellsByte byte.UncertaintySpeed n r = TellsQuantity field.uncertaintySpeed (record { 0 = n }) r
+TellsByte byte.Confidence n r = TellsQuantity field.confidence (record { 0 = n }) r
 
 abbrev pub TellsWord : Word → ℕ → SaidQuantity → Type 0
-TellsWord word.InnerRadius n r = TellsQuantity innerRadius (record { 0 = n }) r
-TellsWord word.Bearing n r = TellsQuantity bearing (record { 0 = n }) r
-TellsWord word.HorizontalSpeed n r = TellsQuantity horizontalSpeed (record { 0 = n }) r
+TellsWord word.InnerRadius n r = TellsQuantity field.innerRadius (record { 0 = n }) r
+TellsWord word.Bearing n r = TellsQuantity field.bearing (record { 0 = n }) r
+TellsWord word.HorizontalSpeed n r = TellsQuantity field.horizontalSpeed (record { 0 = n }) r
 
 abbrev pub TellsSigned : Signed → Bool → ℕ → SaidQuantity → Type 0
-TellsSigned signed.Latitude s n r = TellsQuantity latitude (record { 0 = s; 1 = n }) r
-TellsSigned signed.Altitude s n r = TellsQuantity altitude (record { 0 = s; 1 = n }) r
-TellsSigned signed.VerticalSpeed s n r = TellsQuantity verticalSpeed (record { 0 = s; 1 = n }) r
+TellsSigned signed.Latitude s n r = TellsQuantity field.latitude (record { 0 = s; 1 = n }) r
+TellsSigned signed.Altitude s n r = TellsQuantity field.altitude (record { 0 = s; 1 = n }) r
+TellsSigned signed.VerticalSpeed s n r = TellsQuantity field.verticalSpeed (record { 0 = s; 1 = n }) r
 
 -- what a number that 8 or 16 bits can't hold is refused with
 abbrev pub aboveByte : Byte → SaidQuantity

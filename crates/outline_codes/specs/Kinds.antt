@@ -2,7 +2,8 @@
 use mathlib.Core.Bool.{Bool}
 use lib.Dec.{ltb}
 use Rattle.layout.specs.declared.shape.Kind.{Kind}
-use Rattle.layout.specs.Layout.{MessageField, latitude, altitude, uncertainty, semiMajor, altitudeUncertainty, confidence, innerRadius, count, shapeRows}
+use Rattle.layout.specs.Layout.{MessageField, shapeRows}
+use Rattle.layout.specs.Layout as layout
 use Rattle.layout.specs.Rows.{widthOf}
 use Rattle.outline_codes.specs.declared.unused.Uses.{Uses}
 
@@ -11,14 +12,14 @@ uses k f = ltb 0 (widthOf (shapeRows k 0) f)
 
 abbrev pub usesOf : Kind → Uses
 usesOf k = record {
-  position = uses k (latitude 0);
-  altitude = uses k altitude;
-  uncertainty = uses k uncertainty;
-  axes = uses k semiMajor;
-  «altitude_uncertainty» = uses k altitudeUncertainty;
-  confidence = uses k confidence;
-  arc = uses k innerRadius;
-  count = uses k count;
+  position = uses k (layout.latitude 0);
+  altitude = uses k layout.altitude;
+  uncertainty = uses k layout.uncertainty;
+  axes = uses k layout.semiMajor;
+  «altitude_uncertainty» = uses k layout.altitudeUncertainty;
+  confidence = uses k layout.confidence;
+  arc = uses k layout.innerRadius;
+  count = uses k layout.count;
 }
 
 abbrev pub usesGiven : Bool → Bool → Bool → Bool → Bool → Bool → Bool → Bool → Uses

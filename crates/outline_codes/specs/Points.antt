@@ -5,7 +5,7 @@ use mathlib.Core.List.{List}
 use Prim.Native.Nat.{ℕ}
 use lib.Dec.{ltb}
 use lib.ListN.{length, getD, replicate}
-use Rattle.ground.specs.Answers.{done, refused}
+use Rattle.ground.specs.Answers.{done}
 use Rattle.ground.specs.declared.code.LatitudeCode.{LatitudeCode}
 use Rattle.ground.specs.declared.code.LongitudeCode.{LongitudeCode}
 use Rattle.ground.specs.declared.quantity.Nanodegrees.{Nanodegrees}
@@ -19,8 +19,8 @@ use Rattle.outline_codes.specs.declared.points.PointCoded.the-variants.{
 
 -- a point that is used is in range, and one that isn't is zero
 pub record PointKept (used : Bool) (x y : Nanodegrees) : Type 0 where
-  pub latitudes : used ≡ true → Coding field.latitude x (refused 7) → ⊥
-  pub longitudes : used ≡ true → Coding field.longitude y (refused 7) → ⊥
+  pub latitudes : used ≡ true → field.OutOfRange field.latitude x → ⊥
+  pub longitudes : used ≡ true → field.OutOfRange field.longitude y → ⊥
   pub no-latitudes : used ≡ false → x ≡ zeroDegrees
   pub no-longitudes : used ≡ false → y ≡ zeroDegrees
 

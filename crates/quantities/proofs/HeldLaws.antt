@@ -20,27 +20,8 @@ use Rattle.layout.specs.Shapes.{rowsOf, valueOf}
 use Rattle.layout.specs.Velocities.{velocityValueOf}
 use Rattle.layout.proofs.DemandLaws.{sound}
 use Rattle.layout.proofs.WidthLaws.{shapeWidest, velocityWidest, code-of, velocity-code-of}
-use Rattle.quantities.specs.Places.{
-  Place,
-  latitude,
-  longitude,
-  altitude,
-  uncertainty,
-  semiMajor,
-  semiMinor,
-  orientation,
-  altitudeUncertainty,
-  confidence,
-  innerRadius,
-  offset,
-  included,
-  bearing,
-  horizontalSpeed,
-  verticalSpeed,
-  speedUncertainty,
-  verticalUncertainty,
-  fieldOf,
-}
+use Rattle.quantities.specs.Places.{Place, fieldOf}
+use Rattle.quantities.specs.Places as place
 use Rattle.quantities.specs.Shapes.{codeAt, TakesShape}
 use Rattle.quantities.specs.Velocities.{velocityCodeAt, TakesVelocity}
 
@@ -84,25 +65,25 @@ module _ (x : Shape) (t : TakesShape x) where
   below f most = bounded (rowsOf x) (valueOf x) f most (taken .fields)
 
   pub shape-held : (p : Place) → Held (fieldOf p) (codeAt x p)
-  shape-held (latitude zero) = number (layout.latitude 0)
-  shape-held (latitude (suc i)) = number (layout.latitude (suc i))
-  shape-held (longitude zero) = turn-held (x .longitude .0) (number (layout.longitude 0))
-  shape-held (longitude (suc i)) = turn-held (codeAt x (longitude (suc i)) .0) (number (layout.longitude (suc i)))
-  shape-held altitude = number layout.altitude
-  shape-held uncertainty = number layout.uncertainty
-  shape-held semiMajor = number layout.semiMajor
-  shape-held semiMinor = number layout.semiMinor
-  shape-held orientation = below layout.orientation 180 (omega arith) (taken .angles .orientations)
-  shape-held altitudeUncertainty = number layout.altitudeUncertainty
-  shape-held confidence = below layout.confidence 101 (omega arith) (taken .sure .confidences)
-  shape-held innerRadius = number layout.innerRadius
-  shape-held offset = below layout.offset 180 (omega arith) (taken .angles .offsets)
-  shape-held included = below layout.included 180 (omega arith) (taken .angles .includeds)
-  shape-held bearing = omega arith
-  shape-held horizontalSpeed = omega arith
-  shape-held verticalSpeed = omega arith
-  shape-held speedUncertainty = omega arith
-  shape-held verticalUncertainty = omega arith
+  shape-held (place.latitude zero) = number (layout.latitude 0)
+  shape-held (place.latitude (suc i)) = number (layout.latitude (suc i))
+  shape-held (place.longitude zero) = turn-held (x .longitude .0) (number (layout.longitude 0))
+  shape-held (place.longitude (suc i)) = turn-held (codeAt x (place.longitude (suc i)) .0) (number (layout.longitude (suc i)))
+  shape-held place.altitude = number layout.altitude
+  shape-held place.uncertainty = number layout.uncertainty
+  shape-held place.semiMajor = number layout.semiMajor
+  shape-held place.semiMinor = number layout.semiMinor
+  shape-held place.orientation = below layout.orientation 180 (omega arith) (taken .angles .orientations)
+  shape-held place.altitudeUncertainty = number layout.altitudeUncertainty
+  shape-held place.confidence = below layout.confidence 101 (omega arith) (taken .sure .confidences)
+  shape-held place.innerRadius = number layout.innerRadius
+  shape-held place.offset = below layout.offset 180 (omega arith) (taken .angles .offsets)
+  shape-held place.included = below layout.included 180 (omega arith) (taken .angles .includeds)
+  shape-held place.bearing = omega arith
+  shape-held place.horizontalSpeed = omega arith
+  shape-held place.verticalSpeed = omega arith
+  shape-held place.speedUncertainty = omega arith
+  shape-held place.verticalUncertainty = omega arith
 
   pub count-held : x .count ≤ 15
   count-held = let l : x .count < 16 = below layout.count 16 (omega arith) (λ u. let m = taken .counted .most u in omega arith) in omega arith
@@ -117,20 +98,20 @@ module _ (x : Velocity) (t : TakesVelocity x) where
   motion-number = velocity-code-of (x .kind) (velocityValueOf x) (motion-taken .fields)
 
   pub velocity-held : (p : Place) → Held (fieldOf p) (velocityCodeAt x p)
-  velocity-held bearing = bounded (velocityRows (x .kind)) (velocityValueOf x) layout.bearing 360 (motion-taken .fields) (omega arith) (motion-taken .angles .bearings)
-  velocity-held horizontalSpeed = motion-number layout.horizontalSpeed
-  velocity-held verticalSpeed = motion-number layout.verticalSpeed
-  velocity-held speedUncertainty = motion-number layout.speedUncertainty
-  velocity-held verticalUncertainty = motion-number layout.verticalUncertainty
-  velocity-held (latitude i) = omega arith
-  velocity-held (longitude i) = omega arith
-  velocity-held altitude = omega arith
-  velocity-held uncertainty = omega arith
-  velocity-held semiMajor = omega arith
-  velocity-held semiMinor = omega arith
-  velocity-held orientation = omega arith
-  velocity-held altitudeUncertainty = omega arith
-  velocity-held confidence = omega arith
-  velocity-held innerRadius = omega arith
-  velocity-held offset = omega arith
-  velocity-held included = omega arith
+  velocity-held place.bearing = bounded (velocityRows (x .kind)) (velocityValueOf x) layout.bearing 360 (motion-taken .fields) (omega arith) (motion-taken .angles .bearings)
+  velocity-held place.horizontalSpeed = motion-number layout.horizontalSpeed
+  velocity-held place.verticalSpeed = motion-number layout.verticalSpeed
+  velocity-held place.speedUncertainty = motion-number layout.speedUncertainty
+  velocity-held place.verticalUncertainty = motion-number layout.verticalUncertainty
+  velocity-held (place.latitude i) = omega arith
+  velocity-held (place.longitude i) = omega arith
+  velocity-held place.altitude = omega arith
+  velocity-held place.uncertainty = omega arith
+  velocity-held place.semiMajor = omega arith
+  velocity-held place.semiMinor = omega arith
+  velocity-held place.orientation = omega arith
+  velocity-held place.altitudeUncertainty = omega arith
+  velocity-held place.confidence = omega arith
+  velocity-held place.innerRadius = omega arith
+  velocity-held place.offset = omega arith
+  velocity-held place.included = omega arith

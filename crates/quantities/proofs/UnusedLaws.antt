@@ -23,30 +23,8 @@ use Rattle.layout.specs.Shapes.{rowsOf, valueOf}
 use Rattle.layout.specs.Velocities.{velocityValueOf}
 use Rattle.layout.proofs.KindLaws.{pointsOf, point-width, no-point-width}
 use Rattle.layout.proofs.PolygonLaws.{point-row, none-found}
-use Rattle.quantities.specs.Places.{
-  Place,
-  latitude,
-  longitude,
-  altitude,
-  uncertainty,
-  semiMajor,
-  semiMinor,
-  orientation,
-  altitudeUncertainty,
-  confidence,
-  innerRadius,
-  offset,
-  included,
-  bearing,
-  horizontalSpeed,
-  verticalSpeed,
-  speedUncertainty,
-  verticalUncertainty,
-  fieldOf,
-  rowOf,
-  Unused,
-  zeroCode,
-}
+use Rattle.quantities.specs.Places.{Place, fieldOf, rowOf, Unused, zeroCode}
+use Rattle.quantities.specs.Places as place
 use Rattle.quantities.specs.Shapes.{codeAt}
 use Rattle.quantities.specs.Velocities.{velocityCodeAt}
 
@@ -139,53 +117,53 @@ module _ (x : Shape) (h : InFields (rowsOf x) (valueOf x)) where
   counted-points = points-counted (x .kind) (x .count) (number layout.count)
 
   pub unused-code : (p : Place) → Unused (rowsOf x) (rowOf p) → codeAt x p ≡ zeroCode (fieldOf p)
-  unused-code (latitude zero) e =
+  unused-code (place.latitude zero) e =
       let s = no-sign (x .latitude .0) (number (layout.south 0) (south-unused (x .kind) (x .count) 0 e)) in
       λ j. record { 0 = s j; 1 = number (layout.latitude 0) e j }
-  unused-code (latitude (suc i)) e =
-      let s = no-sign (codeAt x (latitude (suc i)) .0) (number (layout.south (suc i)) (south-unused (x .kind) (x .count) (suc i) e)) in
+  unused-code (place.latitude (suc i)) e =
+      let s = no-sign (codeAt x (place.latitude (suc i)) .0) (number (layout.south (suc i)) (south-unused (x .kind) (x .count) (suc i) e)) in
       λ j. record { 0 = s j; 1 = number (layout.latitude (suc i)) e j }
-  unused-code (longitude zero) e = λ j. record { 0 = no-turn (x .longitude .0) (number (layout.longitude 0) e) j }
-  unused-code (longitude (suc i)) e = λ j. record { 0 = no-turn (codeAt x (longitude (suc i)) .0) (number (layout.longitude (suc i)) e) j }
-  unused-code altitude e =
+  unused-code (place.longitude zero) e = λ j. record { 0 = no-turn (x .longitude .0) (number (layout.longitude 0) e) j }
+  unused-code (place.longitude (suc i)) e = λ j. record { 0 = no-turn (codeAt x (place.longitude (suc i)) .0) (number (layout.longitude (suc i)) e) j }
+  unused-code place.altitude e =
       let s = no-sign (x .altitude .0) (number layout.depth (depth-unused (x .kind) (x .count) e)) in
       λ j. record { 0 = s j; 1 = number layout.altitude e j }
-  unused-code uncertainty e = λ j. record { 0 = number layout.uncertainty e j }
-  unused-code semiMajor e = λ j. record { 0 = number layout.semiMajor e j }
-  unused-code semiMinor e = λ j. record { 0 = number layout.semiMinor e j }
-  unused-code orientation e = λ j. record { 0 = number layout.orientation e j }
-  unused-code altitudeUncertainty e = λ j. record { 0 = number layout.altitudeUncertainty e j }
-  unused-code confidence e = λ j. record { 0 = number layout.confidence e j }
-  unused-code innerRadius e = λ j. record { 0 = number layout.innerRadius e j }
-  unused-code offset e = λ j. record { 0 = number layout.offset e j }
-  unused-code included e = λ j. record { 0 = number layout.included e j }
-  unused-code bearing e = refl
-  unused-code horizontalSpeed e = refl
-  unused-code verticalSpeed e = refl
-  unused-code speedUncertainty e = refl
-  unused-code verticalUncertainty e = refl
+  unused-code place.uncertainty e = λ j. record { 0 = number layout.uncertainty e j }
+  unused-code place.semiMajor e = λ j. record { 0 = number layout.semiMajor e j }
+  unused-code place.semiMinor e = λ j. record { 0 = number layout.semiMinor e j }
+  unused-code place.orientation e = λ j. record { 0 = number layout.orientation e j }
+  unused-code place.altitudeUncertainty e = λ j. record { 0 = number layout.altitudeUncertainty e j }
+  unused-code place.confidence e = λ j. record { 0 = number layout.confidence e j }
+  unused-code place.innerRadius e = λ j. record { 0 = number layout.innerRadius e j }
+  unused-code place.offset e = λ j. record { 0 = number layout.offset e j }
+  unused-code place.included e = λ j. record { 0 = number layout.included e j }
+  unused-code place.bearing e = refl
+  unused-code place.horizontalSpeed e = refl
+  unused-code place.verticalSpeed e = refl
+  unused-code place.speedUncertainty e = refl
+  unused-code place.verticalUncertainty e = refl
 
 module _ (x : Velocity) (h : InFields (velocityRows (x .kind)) (velocityValueOf x)) where
   motion-number : (f : MessageField) → Unused (velocityRows (x .kind)) f → velocityValueOf x f ≡ 0
   motion-number = no-number (velocityRows (x .kind)) (velocityValueOf x) h
 
   pub unused-motion : (p : Place) → Unused (velocityRows (x .kind)) (rowOf p) → velocityCodeAt x p ≡ zeroCode (fieldOf p)
-  unused-motion (latitude i) e = refl
-  unused-motion (longitude i) e = refl
-  unused-motion altitude e = refl
-  unused-motion uncertainty e = refl
-  unused-motion semiMajor e = refl
-  unused-motion semiMinor e = refl
-  unused-motion orientation e = refl
-  unused-motion altitudeUncertainty e = refl
-  unused-motion confidence e = refl
-  unused-motion innerRadius e = refl
-  unused-motion offset e = refl
-  unused-motion included e = refl
-  unused-motion bearing e = λ j. record { 0 = motion-number layout.bearing e j }
-  unused-motion horizontalSpeed e = λ j. record { 0 = motion-number layout.horizontalSpeed e j }
-  unused-motion verticalSpeed e =
+  unused-motion (place.latitude i) e = refl
+  unused-motion (place.longitude i) e = refl
+  unused-motion place.altitude e = refl
+  unused-motion place.uncertainty e = refl
+  unused-motion place.semiMajor e = refl
+  unused-motion place.semiMinor e = refl
+  unused-motion place.orientation e = refl
+  unused-motion place.altitudeUncertainty e = refl
+  unused-motion place.confidence e = refl
+  unused-motion place.innerRadius e = refl
+  unused-motion place.offset e = refl
+  unused-motion place.included e = refl
+  unused-motion place.bearing e = λ j. record { 0 = motion-number layout.bearing e j }
+  unused-motion place.horizontalSpeed e = λ j. record { 0 = motion-number layout.horizontalSpeed e j }
+  unused-motion place.verticalSpeed e =
       let s = no-sign (x .«vertical_speed» .0) (motion-number layout.down (down-unused (x .kind) e)) in
       λ j. record { 0 = s j; 1 = motion-number layout.verticalSpeed e j }
-  unused-motion speedUncertainty e = λ j. record { 0 = motion-number layout.speedUncertainty e j }
-  unused-motion verticalUncertainty e = λ j. record { 0 = motion-number layout.verticalUncertainty e j }
+  unused-motion place.speedUncertainty e = λ j. record { 0 = motion-number layout.speedUncertainty e j }
+  unused-motion place.verticalUncertainty e = λ j. record { 0 = motion-number layout.verticalUncertainty e j }

@@ -7,7 +7,8 @@ use native.Mathlib.Omega.{arith}
 use lib.Dec.{T}
 use Rattle.ground.specs.Answers.{Said, done, refused}
 use Rattle.ground.proofs.AnswerLaws.{said-one, done-not-refused}
-use Rattle.fields.specs.Fields.{Field, latitude, longitude, uncertainty, altitudeUncertainty, altitude, innerRadius, offset, included, orientation, bearing, horizontalSpeed, verticalSpeed, uncertaintySpeed, confidence, CodeOf, QuantityOf, Coding, Reporting}
+use Rattle.fields.specs.Fields.{Field, CodeOf, QuantityOf, Coding, Reporting}
+use Rattle.fields.specs.Fields as field
 use Rattle.fields.proofs.OneAnswer.{coding-one, reporting-one}
 use Rattle.fields.proofs.Kept.{own-set}
 use Rattle.fields.proofs.QuantityLaws.{quantity-reported}
@@ -15,37 +16,37 @@ use Rattle.fields.specs.Quantities.{quantityOf}
 use Rattle.quantities.specs.Places.{zeroCode, zeroQuantity}
 
 abbrev pub hasZero : Field → Bool
-hasZero latitude = true
-hasZero longitude = true
-hasZero uncertainty = true
-hasZero altitudeUncertainty = true
-hasZero altitude = true
-hasZero innerRadius = true
-hasZero offset = true
-hasZero included = false
-hasZero orientation = true
-hasZero bearing = true
-hasZero horizontalSpeed = true
-hasZero verticalSpeed = true
-hasZero uncertaintySpeed = true
-hasZero confidence = true
+hasZero field.latitude = true
+hasZero field.longitude = true
+hasZero field.uncertainty = true
+hasZero field.altitudeUncertainty = true
+hasZero field.altitude = true
+hasZero field.innerRadius = true
+hasZero field.offset = true
+hasZero field.included = false
+hasZero field.orientation = true
+hasZero field.bearing = true
+hasZero field.horizontalSpeed = true
+hasZero field.verticalSpeed = true
+hasZero field.uncertaintySpeed = true
+hasZero field.confidence = true
 
 pub zero-reported : (f : Field) → hasZero f ≡ true → Reporting f (zeroCode f) (done (zeroQuantity f))
 unfolding quantityOf
-zero-reported latitude e = quantity-reported latitude (zeroCode latitude) (omega arith)
-zero-reported longitude e = quantity-reported longitude (zeroCode longitude) (omega arith)
-zero-reported uncertainty e = quantity-reported uncertainty (zeroCode uncertainty) (omega arith)
-zero-reported altitudeUncertainty e = quantity-reported altitudeUncertainty (zeroCode altitudeUncertainty) (omega arith)
-zero-reported altitude e = quantity-reported altitude (zeroCode altitude) (omega arith)
-zero-reported innerRadius e = quantity-reported innerRadius (zeroCode innerRadius) (omega arith)
-zero-reported offset e = quantity-reported offset (zeroCode offset) (omega arith)
-zero-reported included e = absurd (subst T (sym e) tt)
-zero-reported orientation e = quantity-reported orientation (zeroCode orientation) (omega arith)
-zero-reported bearing e = quantity-reported bearing (zeroCode bearing) (omega arith)
-zero-reported horizontalSpeed e = quantity-reported horizontalSpeed (zeroCode horizontalSpeed) (omega arith)
-zero-reported verticalSpeed e = quantity-reported verticalSpeed (zeroCode verticalSpeed) (omega arith)
-zero-reported uncertaintySpeed e = quantity-reported uncertaintySpeed (zeroCode uncertaintySpeed) (omega arith)
-zero-reported confidence e = quantity-reported confidence (zeroCode confidence) (omega arith)
+zero-reported field.latitude e = quantity-reported field.latitude (zeroCode field.latitude) (omega arith)
+zero-reported field.longitude e = quantity-reported field.longitude (zeroCode field.longitude) (omega arith)
+zero-reported field.uncertainty e = quantity-reported field.uncertainty (zeroCode field.uncertainty) (omega arith)
+zero-reported field.altitudeUncertainty e = quantity-reported field.altitudeUncertainty (zeroCode field.altitudeUncertainty) (omega arith)
+zero-reported field.altitude e = quantity-reported field.altitude (zeroCode field.altitude) (omega arith)
+zero-reported field.innerRadius e = quantity-reported field.innerRadius (zeroCode field.innerRadius) (omega arith)
+zero-reported field.offset e = quantity-reported field.offset (zeroCode field.offset) (omega arith)
+zero-reported field.included e = absurd (subst T (sym e) tt)
+zero-reported field.orientation e = quantity-reported field.orientation (zeroCode field.orientation) (omega arith)
+zero-reported field.bearing e = quantity-reported field.bearing (zeroCode field.bearing) (omega arith)
+zero-reported field.horizontalSpeed e = quantity-reported field.horizontalSpeed (zeroCode field.horizontalSpeed) (omega arith)
+zero-reported field.verticalSpeed e = quantity-reported field.verticalSpeed (zeroCode field.verticalSpeed) (omega arith)
+zero-reported field.uncertaintySpeed e = quantity-reported field.uncertaintySpeed (zeroCode field.uncertaintySpeed) (omega arith)
+zero-reported field.confidence e = quantity-reported field.confidence (zeroCode field.confidence) (omega arith)
 
 -- so a code that is zero reports zero, and a quantity that is zero codes zero
 pub reports-zero : (f : Field) (c : CodeOf f) (x : QuantityOf f) → hasZero f ≡ true → c ≡ zeroCode f → Reporting f c (done x) → x ≡ zeroQuantity f

@@ -16,55 +16,56 @@ use Rattle.layout.specs.Shapes.{rowsOf, valueOf, zeroLatitude, zeroLongitude, b
 use Rattle.quantities.specs.declared.shape.ShapeQuantities.{ShapeQuantities}
 use Rattle.quantities.specs.declared.shape.ShapeReported.{ShapeReported}
 use Rattle.quantities.specs.declared.shape.ShapeCoded.{ShapeCoded}
-use Rattle.quantities.specs.Places.{latitude, longitude, altitude, uncertainty, semiMajor, semiMinor, orientation, altitudeUncertainty, confidence, innerRadius, offset, included, bearing, horizontalSpeed, verticalSpeed, speedUncertainty, verticalUncertainty, PlaceCodes, PlaceQuantities, zeroCode, zeroQuantity}
+use Rattle.quantities.specs.Places.{PlaceCodes, PlaceQuantities, zeroCode, zeroQuantity}
+use Rattle.quantities.specs.Places as place
 use Rattle.quantities.specs.Promises.{EachReported, EachCoded, CodeAnswer, Given}
 
 -- ---- the codes and the quantities at a shape's places; a velocity's are zero
 
 abbrev pub codeAt : Shape → PlaceCodes
-codeAt x (latitude zero) = x .latitude
-codeAt x (latitude (suc i)) = getD (x .latitudes) i zeroLatitude
-codeAt x (longitude zero) = x .longitude
-codeAt x (longitude (suc i)) = getD (x .longitudes) i zeroLongitude
-codeAt x altitude = x .altitude
-codeAt x uncertainty = x .uncertainty
-codeAt x semiMajor = x .«semi_major»
-codeAt x semiMinor = x .«semi_minor»
-codeAt x orientation = x .orientation
-codeAt x altitudeUncertainty = x .«altitude_uncertainty»
-codeAt x confidence = x .confidence
-codeAt x innerRadius = x .«inner_radius»
-codeAt x offset = x .offset
-codeAt x included = x .included
-codeAt x bearing = zeroCode field.bearing
-codeAt x horizontalSpeed = zeroCode field.horizontalSpeed
-codeAt x verticalSpeed = zeroCode field.verticalSpeed
-codeAt x speedUncertainty = zeroCode field.uncertaintySpeed
-codeAt x verticalUncertainty = zeroCode field.uncertaintySpeed
+codeAt x (place.latitude zero) = x .latitude
+codeAt x (place.latitude (suc i)) = getD (x .latitudes) i zeroLatitude
+codeAt x (place.longitude zero) = x .longitude
+codeAt x (place.longitude (suc i)) = getD (x .longitudes) i zeroLongitude
+codeAt x place.altitude = x .altitude
+codeAt x place.uncertainty = x .uncertainty
+codeAt x place.semiMajor = x .«semi_major»
+codeAt x place.semiMinor = x .«semi_minor»
+codeAt x place.orientation = x .orientation
+codeAt x place.altitudeUncertainty = x .«altitude_uncertainty»
+codeAt x place.confidence = x .confidence
+codeAt x place.innerRadius = x .«inner_radius»
+codeAt x place.offset = x .offset
+codeAt x place.included = x .included
+codeAt x place.bearing = zeroCode field.bearing
+codeAt x place.horizontalSpeed = zeroCode field.horizontalSpeed
+codeAt x place.verticalSpeed = zeroCode field.verticalSpeed
+codeAt x place.speedUncertainty = zeroCode field.uncertaintySpeed
+codeAt x place.verticalUncertainty = zeroCode field.uncertaintySpeed
 
 abbrev pub zeroDegrees : Nanodegrees
 zeroDegrees = record { 0 = pos 0 }
 
 abbrev pub quantityAt : ShapeQuantities → PlaceQuantities
-quantityAt q (latitude zero) = q .latitude
-quantityAt q (latitude (suc i)) = getD (q .latitudes) i zeroDegrees
-quantityAt q (longitude zero) = q .longitude
-quantityAt q (longitude (suc i)) = getD (q .longitudes) i zeroDegrees
-quantityAt q altitude = q .altitude
-quantityAt q uncertainty = q .uncertainty
-quantityAt q semiMajor = q .«semi_major»
-quantityAt q semiMinor = q .«semi_minor»
-quantityAt q orientation = q .orientation
-quantityAt q altitudeUncertainty = q .«altitude_uncertainty»
-quantityAt q confidence = q .confidence
-quantityAt q innerRadius = q .«inner_radius»
-quantityAt q offset = q .offset
-quantityAt q included = q .included
-quantityAt q bearing = zeroQuantity field.bearing
-quantityAt q horizontalSpeed = zeroQuantity field.horizontalSpeed
-quantityAt q verticalSpeed = zeroQuantity field.verticalSpeed
-quantityAt q speedUncertainty = zeroQuantity field.uncertaintySpeed
-quantityAt q verticalUncertainty = zeroQuantity field.uncertaintySpeed
+quantityAt q (place.latitude zero) = q .latitude
+quantityAt q (place.latitude (suc i)) = getD (q .latitudes) i zeroDegrees
+quantityAt q (place.longitude zero) = q .longitude
+quantityAt q (place.longitude (suc i)) = getD (q .longitudes) i zeroDegrees
+quantityAt q place.altitude = q .altitude
+quantityAt q place.uncertainty = q .uncertainty
+quantityAt q place.semiMajor = q .«semi_major»
+quantityAt q place.semiMinor = q .«semi_minor»
+quantityAt q place.orientation = q .orientation
+quantityAt q place.altitudeUncertainty = q .«altitude_uncertainty»
+quantityAt q place.confidence = q .confidence
+quantityAt q place.innerRadius = q .«inner_radius»
+quantityAt q place.offset = q .offset
+quantityAt q place.included = q .included
+quantityAt q place.bearing = zeroQuantity field.bearing
+quantityAt q place.horizontalSpeed = zeroQuantity field.horizontalSpeed
+quantityAt q place.verticalSpeed = zeroQuantity field.verticalSpeed
+quantityAt q place.speedUncertainty = zeroQuantity field.uncertaintySpeed
+quantityAt q place.verticalUncertainty = zeroQuantity field.uncertaintySpeed
 
 -- the quantities of a refusal: of no kind, and all zero
 abbrev pub noShape : ShapeQuantities

@@ -11,48 +11,49 @@ use Rattle.layout.specs.Velocities.{velocityValueOf, blankVelocity}
 use Rattle.quantities.specs.declared.velocity.VelocityQuantities.{VelocityQuantities}
 use Rattle.quantities.specs.declared.velocity.VelocityReported.{VelocityReported}
 use Rattle.quantities.specs.declared.velocity.VelocityCoded.{VelocityCoded}
-use Rattle.quantities.specs.Places.{latitude, longitude, altitude, uncertainty, semiMajor, semiMinor, orientation, altitudeUncertainty, confidence, innerRadius, offset, included, bearing, horizontalSpeed, verticalSpeed, speedUncertainty, verticalUncertainty, PlaceCodes, PlaceQuantities, zeroCode, zeroQuantity}
+use Rattle.quantities.specs.Places.{PlaceCodes, PlaceQuantities, zeroCode, zeroQuantity}
+use Rattle.quantities.specs.Places as place
 use Rattle.quantities.specs.Promises.{EachReported, EachCoded, CodeAnswer, Given}
 
 -- ---- the codes and the quantities at a velocity's places; a shape's are zero
 
 abbrev pub velocityCodeAt : Velocity → PlaceCodes
-velocityCodeAt x bearing = x .bearing
-velocityCodeAt x horizontalSpeed = x .«horizontal_speed»
-velocityCodeAt x verticalSpeed = x .«vertical_speed»
-velocityCodeAt x speedUncertainty = x .uncertainty
-velocityCodeAt x verticalUncertainty = x .«vertical_uncertainty»
-velocityCodeAt x (latitude i) = zeroCode field.latitude
-velocityCodeAt x (longitude i) = zeroCode field.longitude
-velocityCodeAt x altitude = zeroCode field.altitude
-velocityCodeAt x uncertainty = zeroCode field.uncertainty
-velocityCodeAt x semiMajor = zeroCode field.uncertainty
-velocityCodeAt x semiMinor = zeroCode field.uncertainty
-velocityCodeAt x orientation = zeroCode field.orientation
-velocityCodeAt x altitudeUncertainty = zeroCode field.altitudeUncertainty
-velocityCodeAt x confidence = zeroCode field.confidence
-velocityCodeAt x innerRadius = zeroCode field.innerRadius
-velocityCodeAt x offset = zeroCode field.offset
-velocityCodeAt x included = zeroCode field.included
+velocityCodeAt x place.bearing = x .bearing
+velocityCodeAt x place.horizontalSpeed = x .«horizontal_speed»
+velocityCodeAt x place.verticalSpeed = x .«vertical_speed»
+velocityCodeAt x place.speedUncertainty = x .uncertainty
+velocityCodeAt x place.verticalUncertainty = x .«vertical_uncertainty»
+velocityCodeAt x (place.latitude i) = zeroCode field.latitude
+velocityCodeAt x (place.longitude i) = zeroCode field.longitude
+velocityCodeAt x place.altitude = zeroCode field.altitude
+velocityCodeAt x place.uncertainty = zeroCode field.uncertainty
+velocityCodeAt x place.semiMajor = zeroCode field.uncertainty
+velocityCodeAt x place.semiMinor = zeroCode field.uncertainty
+velocityCodeAt x place.orientation = zeroCode field.orientation
+velocityCodeAt x place.altitudeUncertainty = zeroCode field.altitudeUncertainty
+velocityCodeAt x place.confidence = zeroCode field.confidence
+velocityCodeAt x place.innerRadius = zeroCode field.innerRadius
+velocityCodeAt x place.offset = zeroCode field.offset
+velocityCodeAt x place.included = zeroCode field.included
 
 abbrev pub velocityQuantityAt : VelocityQuantities → PlaceQuantities
-velocityQuantityAt q bearing = q .bearing
-velocityQuantityAt q horizontalSpeed = q .«horizontal_speed»
-velocityQuantityAt q verticalSpeed = q .«vertical_speed»
-velocityQuantityAt q speedUncertainty = q .uncertainty
-velocityQuantityAt q verticalUncertainty = q .«vertical_uncertainty»
-velocityQuantityAt q (latitude i) = zeroQuantity field.latitude
-velocityQuantityAt q (longitude i) = zeroQuantity field.longitude
-velocityQuantityAt q altitude = zeroQuantity field.altitude
-velocityQuantityAt q uncertainty = zeroQuantity field.uncertainty
-velocityQuantityAt q semiMajor = zeroQuantity field.uncertainty
-velocityQuantityAt q semiMinor = zeroQuantity field.uncertainty
-velocityQuantityAt q orientation = zeroQuantity field.orientation
-velocityQuantityAt q altitudeUncertainty = zeroQuantity field.altitudeUncertainty
-velocityQuantityAt q confidence = zeroQuantity field.confidence
-velocityQuantityAt q innerRadius = zeroQuantity field.innerRadius
-velocityQuantityAt q offset = zeroQuantity field.offset
-velocityQuantityAt q included = zeroQuantity field.included
+velocityQuantityAt q place.bearing = q .bearing
+velocityQuantityAt q place.horizontalSpeed = q .«horizontal_speed»
+velocityQuantityAt q place.verticalSpeed = q .«vertical_speed»
+velocityQuantityAt q place.speedUncertainty = q .uncertainty
+velocityQuantityAt q place.verticalUncertainty = q .«vertical_uncertainty»
+velocityQuantityAt q (place.latitude i) = zeroQuantity field.latitude
+velocityQuantityAt q (place.longitude i) = zeroQuantity field.longitude
+velocityQuantityAt q place.altitude = zeroQuantity field.altitude
+velocityQuantityAt q place.uncertainty = zeroQuantity field.uncertainty
+velocityQuantityAt q place.semiMajor = zeroQuantity field.uncertainty
+velocityQuantityAt q place.semiMinor = zeroQuantity field.uncertainty
+velocityQuantityAt q place.orientation = zeroQuantity field.orientation
+velocityQuantityAt q place.altitudeUncertainty = zeroQuantity field.altitudeUncertainty
+velocityQuantityAt q place.confidence = zeroQuantity field.confidence
+velocityQuantityAt q place.innerRadius = zeroQuantity field.innerRadius
+velocityQuantityAt q place.offset = zeroQuantity field.offset
+velocityQuantityAt q place.included = zeroQuantity field.included
 
 -- the quantities of a refusal: of no kind, and all zero
 abbrev pub noVelocity : VelocityQuantities

@@ -20,34 +20,8 @@ use Rattle.fields.specs.Fields as field
 use Rattle.layout.specs.declared.shape.Kind.{Kind}
 use Rattle.layout.specs.declared.shape.Kind.the-variants as kind
 use Rattle.layout.specs.declared.shape.Shape.{Shape}
-use Rattle.layout.specs.Layout.{
-  MessageField,
-  typeNumber,
-  count,
-  south,
-  latitude,
-  longitude,
-  depth,
-  altitude,
-  uncertainty,
-  semiMajor,
-  semiMinor,
-  orientation,
-  altitudeUncertainty,
-  confidence,
-  innerRadius,
-  offset,
-  included,
-  bearing,
-  horizontalSpeed,
-  down,
-  verticalSpeed,
-  speedUncertainty,
-  verticalUncertainty,
-  Row,
-  shapeRows,
-  typeOf,
-}
+use Rattle.layout.specs.Layout.{MessageField, Row, shapeRows, typeOf}
+use Rattle.layout.specs.Layout as layout
 use Rattle.layout.specs.Rows.{tag, widthOf, lengthOf, message}
 use Rattle.layout.specs.Demands.{Used, InFields}
 use Rattle.layout.specs.Shapes.{rowsIn, shapeIn, rowsOf, valueOf}
@@ -121,17 +95,17 @@ module _ (x y : Shape) where
 -- ---- which rows go together
 
 module _ (k : Kind) (part : TakesPart k) where
-  has-altitude : Used (shapeRows k 0) depth → hasRow k altitude ≡ true
-  has-altitude = by-kind (λ j. Used (shapeRows j 0) depth → hasRow j altitude ≡ true) (λ u. absurd (omega arith)) (λ u. absurd (omega arith)) (λ u. absurd (omega arith)) (λ u. refl) (λ u. refl) k part
+  has-altitude : Used (shapeRows k 0) layout.depth → hasRow k layout.altitude ≡ true
+  has-altitude = by-kind (λ j. Used (shapeRows j 0) layout.depth → hasRow j layout.altitude ≡ true) (λ u. absurd (omega arith)) (λ u. absurd (omega arith)) (λ u. absurd (omega arith)) (λ u. refl) (λ u. refl) k part
 
-  no-axes : Used (shapeRows k 0) uncertainty → hasRow k semiMajor ≡ false
-  no-axes = by-kind (λ j. Used (shapeRows j 0) uncertainty → hasRow j semiMajor ≡ false) (λ u. refl) (λ u. refl) (λ u. absurd (omega arith)) (λ u. refl) (λ u. absurd (omega arith)) k part
+  no-axes : Used (shapeRows k 0) layout.uncertainty → hasRow k layout.semiMajor ≡ false
+  no-axes = by-kind (λ j. Used (shapeRows j 0) layout.uncertainty → hasRow j layout.semiMajor ≡ false) (λ u. refl) (λ u. refl) (λ u. absurd (omega arith)) (λ u. refl) (λ u. absurd (omega arith)) k part
 
-  axes-minor : Used (shapeRows k 0) semiMinor → hasRow k semiMajor ≡ true
-  axes-minor = by-kind (λ j. Used (shapeRows j 0) semiMinor → hasRow j semiMajor ≡ true) (λ u. absurd (omega arith)) (λ u. absurd (omega arith)) (λ u. refl) (λ u. absurd (omega arith)) (λ u. refl) k part
+  axes-minor : Used (shapeRows k 0) layout.semiMinor → hasRow k layout.semiMajor ≡ true
+  axes-minor = by-kind (λ j. Used (shapeRows j 0) layout.semiMinor → hasRow j layout.semiMajor ≡ true) (λ u. absurd (omega arith)) (λ u. absurd (omega arith)) (λ u. refl) (λ u. absurd (omega arith)) (λ u. refl) k part
 
-  axes-turned : Used (shapeRows k 0) orientation → hasRow k semiMajor ≡ true
-  axes-turned = by-kind (λ j. Used (shapeRows j 0) orientation → hasRow j semiMajor ≡ true) (λ u. absurd (omega arith)) (λ u. absurd (omega arith)) (λ u. refl) (λ u. absurd (omega arith)) (λ u. refl) k part
+  axes-turned : Used (shapeRows k 0) layout.orientation → hasRow k layout.semiMajor ≡ true
+  axes-turned = by-kind (λ j. Used (shapeRows j 0) layout.orientation → hasRow j layout.semiMajor ≡ true) (λ u. absurd (omega arith)) (λ u. absurd (omega arith)) (λ u. refl) (λ u. absurd (omega arith)) (λ u. refl) k part
 
   abbrev NoRow : MessageField → Type 0
   NoRow f = Used (shapeRows k 0) f → ⊥
@@ -144,17 +118,17 @@ module _ (k : Kind) (part : TakesPart k) where
       none = by-kind (λ j. widthOf (shapeRows j 0) f ≡ 0) (no-point-width kind.Point 0 f h (omega arith)) (no-point-width kind.Circle 0 f h (omega arith)) (no-point-width kind.Ellipse 0 f h (omega arith)) (no-point-width kind.AltitudePoint 0 f h (omega arith)) (no-point-width kind.AltitudeEllipsoid 0 f h (omega arith)) k part
 
   -- a polygon's count, an arc's fields, a velocity's
-  no-count : NoRow count
-  no-count u = omega (arith, by-kind (λ j. widthOf (shapeRows j 0) count ≡ 0) refl refl refl refl refl k part)
+  no-count : NoRow layout.count
+  no-count u = omega (arith, by-kind (λ j. widthOf (shapeRows j 0) layout.count ≡ 0) refl refl refl refl refl k part)
 
-  no-radius : NoRow innerRadius
-  no-radius u = omega (arith, by-kind (λ j. widthOf (shapeRows j 0) innerRadius ≡ 0) refl refl refl refl refl k part)
+  no-radius : NoRow layout.innerRadius
+  no-radius u = omega (arith, by-kind (λ j. widthOf (shapeRows j 0) layout.innerRadius ≡ 0) refl refl refl refl refl k part)
 
-  no-offset : NoRow offset
-  no-offset u = omega (arith, by-kind (λ j. widthOf (shapeRows j 0) offset ≡ 0) refl refl refl refl refl k part)
+  no-offset : NoRow layout.offset
+  no-offset u = omega (arith, by-kind (λ j. widthOf (shapeRows j 0) layout.offset ≡ 0) refl refl refl refl refl k part)
 
-  no-included : NoRow included
-  no-included u = omega (arith, by-kind (λ j. widthOf (shapeRows j 0) included ≡ 0) refl refl refl refl refl k part)
+  no-included : NoRow layout.included
+  no-included u = omega (arith, by-kind (λ j. widthOf (shapeRows j 0) layout.included ≡ 0) refl refl refl refl refl k part)
 
   no-motion : (f : MessageField) → shapeWidest f ≡ 0 → NoRow f
   no-motion f e u = omega (arith, shape-width k 0 f)
@@ -184,58 +158,58 @@ module _ (q : Request) (x y : Shape) (part : TakesPart (x .kind)) (kinds : x .ki
   abbrev row : MessageField → Bool
   row f = hasRow (x .kind) f
 
-  altitudes : row altitude ≡ true → x .altitude ≡ y .altitude
-  altitudes e = altitude-same (q .altitude) (row altitude) (x .altitude) (y .altitude) e
+  altitudes : row layout.altitude ≡ true → x .altitude ≡ y .altitude
+  altitudes e = altitude-same (q .altitude) (row layout.altitude) (x .altitude) (y .altitude) e
       (subst (λ (l : List Row). HoldsAltitude (q .altitude) (altitudeHad l x)) x-rows (p .altitudes))
       (subst (λ (l : List Row). HoldsAltitude (q .altitude) (altitudeHad l y)) y-rows (r .altitudes))
 
-  axes : row semiMajor ≡ true → (x .«semi_major» .0 ≡ y .«semi_major» .0) × (x .«semi_minor» .0 ≡ y .«semi_minor» .0) × (x .orientation .0 ≡ y .orientation .0)
-  axes e = axes-same x y (q .horizontal) (row semiMajor) (row uncertainty) e
+  axes : row layout.semiMajor ≡ true → (x .«semi_major» .0 ≡ y .«semi_major» .0) × (x .«semi_minor» .0 ≡ y .«semi_minor» .0) × (x .orientation .0 ≡ y .orientation .0)
+  axes e = axes-same x y (q .horizontal) (row layout.semiMajor) (row layout.uncertainty) e
       (subst (λ (l : List Row). HoldsArea (q .horizontal) (areaHad l x)) x-rows (p .areas))
       (subst (λ (l : List Row). HoldsArea (q .horizontal) (areaHad l y)) y-rows (r .areas))
       (moved (λ l m. majorOf (areaHad l x) ≡ majorOf (areaHad m y)) majors)
       (moved (λ l m. minorOf (areaHad l x) ≡ minorOf (areaHad m y)) minors)
 
-  circles : row semiMajor ≡ false → row uncertainty ≡ true → x .uncertainty .0 ≡ y .uncertainty .0
-  circles a b = circle-same x y (row semiMajor) (row uncertainty) a b
+  circles : row layout.semiMajor ≡ false → row layout.uncertainty ≡ true → x .uncertainty .0 ≡ y .uncertainty .0
+  circles a b = circle-same x y (row layout.semiMajor) (row layout.uncertainty) a b
       (moved (λ l m. majorOf (areaHad l x) ≡ majorOf (areaHad m y)) majors)
 
-  tall : row altitudeUncertainty ≡ true → x .«altitude_uncertainty» .0 ≡ y .«altitude_uncertainty» .0
-  tall e = height-same (row altitudeUncertainty) (x .«altitude_uncertainty») (y .«altitude_uncertainty») e
+  tall : row layout.altitudeUncertainty ≡ true → x .«altitude_uncertainty» .0 ≡ y .«altitude_uncertainty» .0
+  tall e = height-same (row layout.altitudeUncertainty) (x .«altitude_uncertainty») (y .«altitude_uncertainty») e
       (moved (λ l m. heightOf (altitudeUncertaintyHad l x) ≡ heightOf (altitudeUncertaintyHad m y)) heights)
 
-  sure : row confidence ≡ true → x .confidence ≡ y .confidence
-  sure e = confidence-same (q .confidence) (row confidence) (x .confidence) (y .confidence) e
+  sure : row layout.confidence ≡ true → x .confidence ≡ y .confidence
+  sure e = confidence-same (q .confidence) (row layout.confidence) (x .confidence) (y .confidence) e
       (subst (λ (l : List Row). HoldsConfidence (q .confidence) (confidenceHad l x)) x-rows (p .confidences))
       (subst (λ (l : List Row). HoldsConfidence (q .confidence) (confidenceHad l y)) y-rows (r .confidences))
 
   -- a field that the kind has a row for
   used-same : (f : MessageField) → Used (shapeRows (x .kind) 0) f → valueOf x f ≡ valueOf y f
-  used-same typeNumber u = ap typeOf kinds
-  used-same count u = absurd (no-count (x .kind) part u)
-  used-same (south zero) u = ap (λ (c : LatitudeCode). bitOf (c .0)) latitudes
-  used-same (south (suc i)) u = absurd (no-point (x .kind) part (south (suc i)) (omega arith) u)
-  used-same (latitude zero) u = ap (λ (c : LatitudeCode). c .1) latitudes
-  used-same (latitude (suc i)) u = absurd (no-point (x .kind) part (latitude (suc i)) (omega arith) u)
-  used-same (longitude zero) u = ap (λ (c : LongitudeCode). complement (c .0)) longitudes
-  used-same (longitude (suc i)) u = absurd (no-point (x .kind) part (longitude (suc i)) (omega arith) u)
-  used-same depth u = ap (λ (c : AltitudeCode). bitOf (c .0)) (altitudes (has-altitude (x .kind) part u))
-  used-same altitude u = ap (λ (c : AltitudeCode). c .1) (altitudes (lt-ltb _ _ u))
-  used-same uncertainty u = circles (no-axes (x .kind) part u) (lt-ltb _ _ u)
-  used-same semiMajor u = axes (lt-ltb _ _ u) .0
-  used-same semiMinor u = axes (axes-minor (x .kind) part u) .1
-  used-same orientation u = axes (axes-turned (x .kind) part u) .2
-  used-same altitudeUncertainty u = tall (lt-ltb _ _ u)
-  used-same confidence u = ap (λ (c : ConfidenceCode). c .0) (sure (lt-ltb _ _ u))
-  used-same innerRadius u = absurd (no-radius (x .kind) part u)
-  used-same offset u = absurd (no-offset (x .kind) part u)
-  used-same included u = absurd (no-included (x .kind) part u)
-  used-same bearing u = absurd (no-motion (x .kind) part bearing refl u)
-  used-same horizontalSpeed u = absurd (no-motion (x .kind) part horizontalSpeed refl u)
-  used-same down u = absurd (no-motion (x .kind) part down refl u)
-  used-same verticalSpeed u = absurd (no-motion (x .kind) part verticalSpeed refl u)
-  used-same speedUncertainty u = absurd (no-motion (x .kind) part speedUncertainty refl u)
-  used-same verticalUncertainty u = absurd (no-motion (x .kind) part verticalUncertainty refl u)
+  used-same layout.typeNumber u = ap typeOf kinds
+  used-same layout.count u = absurd (no-count (x .kind) part u)
+  used-same (layout.south zero) u = ap (λ (c : LatitudeCode). bitOf (c .0)) latitudes
+  used-same (layout.south (suc i)) u = absurd (no-point (x .kind) part (layout.south (suc i)) (omega arith) u)
+  used-same (layout.latitude zero) u = ap (λ (c : LatitudeCode). c .1) latitudes
+  used-same (layout.latitude (suc i)) u = absurd (no-point (x .kind) part (layout.latitude (suc i)) (omega arith) u)
+  used-same (layout.longitude zero) u = ap (λ (c : LongitudeCode). complement (c .0)) longitudes
+  used-same (layout.longitude (suc i)) u = absurd (no-point (x .kind) part (layout.longitude (suc i)) (omega arith) u)
+  used-same layout.depth u = ap (λ (c : AltitudeCode). bitOf (c .0)) (altitudes (has-altitude (x .kind) part u))
+  used-same layout.altitude u = ap (λ (c : AltitudeCode). c .1) (altitudes (lt-ltb _ _ u))
+  used-same layout.uncertainty u = circles (no-axes (x .kind) part u) (lt-ltb _ _ u)
+  used-same layout.semiMajor u = axes (lt-ltb _ _ u) .0
+  used-same layout.semiMinor u = axes (axes-minor (x .kind) part u) .1
+  used-same layout.orientation u = axes (axes-turned (x .kind) part u) .2
+  used-same layout.altitudeUncertainty u = tall (lt-ltb _ _ u)
+  used-same layout.confidence u = ap (λ (c : ConfidenceCode). c .0) (sure (lt-ltb _ _ u))
+  used-same layout.innerRadius u = absurd (no-radius (x .kind) part u)
+  used-same layout.offset u = absurd (no-offset (x .kind) part u)
+  used-same layout.included u = absurd (no-included (x .kind) part u)
+  used-same layout.bearing u = absurd (no-motion (x .kind) part layout.bearing refl u)
+  used-same layout.horizontalSpeed u = absurd (no-motion (x .kind) part layout.horizontalSpeed refl u)
+  used-same layout.down u = absurd (no-motion (x .kind) part layout.down refl u)
+  used-same layout.verticalSpeed u = absurd (no-motion (x .kind) part layout.verticalSpeed refl u)
+  used-same layout.speedUncertainty u = absurd (no-motion (x .kind) part layout.speedUncertainty refl u)
+  used-same layout.verticalUncertainty u = absurd (no-motion (x .kind) part layout.verticalUncertainty refl u)
 
   -- what it has no row for is zero in both
   same-message : InFields (rowsOf x) (valueOf x) → InFields (rowsOf y) (valueOf y) → message (rowsOf x) (valueOf x) ≡ message (rowsOf y) (valueOf y)

@@ -16,34 +16,8 @@ use Rattle.octets.specs.Codes.{bitOf, signOf, complement, fromComplement}
 use Rattle.octets.proofs.ComplementLaws.{complement-back}
 use Rattle.layout.specs.declared.shape.Kind.{Kind}
 use Rattle.layout.specs.declared.shape.Kind.the-variants.{AltitudePoint, AltitudeEllipsoid}
-use Rattle.layout.specs.Layout.{
-  MessageField,
-  typeNumber,
-  count,
-  south,
-  latitude,
-  longitude,
-  depth,
-  altitude,
-  uncertainty,
-  semiMajor,
-  semiMinor,
-  orientation,
-  altitudeUncertainty,
-  confidence,
-  innerRadius,
-  offset,
-  included,
-  bearing,
-  horizontalSpeed,
-  down,
-  verticalSpeed,
-  speedUncertainty,
-  verticalUncertainty,
-  Row,
-  shapeRows,
-  typeOf,
-}
+use Rattle.layout.specs.Layout.{MessageField, Row, shapeRows, typeOf}
+use Rattle.layout.specs.Layout as layout
 use Rattle.layout.specs.Rows.{tag, widthOf}
 use Rattle.layout.specs.Demands.{TypeKnown, Sound}
 use Rattle.layout.specs.Shapes.{rowsOf, valueOf, latitudeOf, longitudeOf, Fifteen}
@@ -79,8 +53,8 @@ part-full = by-kind (λ k. full (shapeRows k 0) ≡ true) refl refl refl refl re
 part-listed : (k : Kind) → TakesPart k → TypeKnown (shapeRows k 0)
 part-listed = by-kind (λ k. TypeKnown (shapeRows k 0)) (omega arith) (omega arith) (omega arith) (omega arith) (omega arith)
 
-part-uncounted : (k : Kind) → TakesPart k → widthOf (shapeRows k 0) count ≡ 0
-part-uncounted = by-kind (λ k. widthOf (shapeRows k 0) count ≡ 0) refl refl refl refl refl
+part-uncounted : (k : Kind) → TakesPart k → widthOf (shapeRows k 0) layout.count ≡ 0
+part-uncounted = by-kind (λ k. widthOf (shapeRows k 0) layout.count ≡ 0) refl refl refl refl refl
 
 -- ---- each number has the bits of its field
 
@@ -102,31 +76,31 @@ at-most false n most h = h
 
 module _ (k : Kind) (w : Wanted) (part : TakesPart k) (t : Tame w) where
   number-small : (f : MessageField) → wantedNumber k w f < 2 ^ shapeWidest f
-  number-small typeNumber = type-small k
-  number-small (south zero) = sign-small (w .latitude .0)
-  number-small (south (suc i)) = omega arith
-  number-small (latitude zero) = t .latitudes
-  number-small (latitude (suc i)) = omega arith
-  number-small (longitude zero) = turn-small (w .longitude .0) (t .longitudes)
-  number-small (longitude (suc i)) = omega arith
-  number-small depth = sign-small (w .altitude .code .0)
-  number-small altitude = t .altitudes
-  number-small uncertainty = t .majors
-  number-small semiMajor = t .majors
-  number-small semiMinor = t .minors
-  number-small orientation = omega (arith, t .orientations)
-  number-small altitudeUncertainty = t .heights
-  number-small confidence = omega (arith, t .confidences)
-  number-small count = omega arith
-  number-small innerRadius = omega arith
-  number-small offset = omega arith
-  number-small included = omega arith
-  number-small bearing = omega arith
-  number-small horizontalSpeed = omega arith
-  number-small down = omega arith
-  number-small verticalSpeed = omega arith
-  number-small speedUncertainty = omega arith
-  number-small verticalUncertainty = omega arith
+  number-small layout.typeNumber = type-small k
+  number-small (layout.south zero) = sign-small (w .latitude .0)
+  number-small (layout.south (suc i)) = omega arith
+  number-small (layout.latitude zero) = t .latitudes
+  number-small (layout.latitude (suc i)) = omega arith
+  number-small (layout.longitude zero) = turn-small (w .longitude .0) (t .longitudes)
+  number-small (layout.longitude (suc i)) = omega arith
+  number-small layout.depth = sign-small (w .altitude .code .0)
+  number-small layout.altitude = t .altitudes
+  number-small layout.uncertainty = t .majors
+  number-small layout.semiMajor = t .majors
+  number-small layout.semiMinor = t .minors
+  number-small layout.orientation = omega (arith, t .orientations)
+  number-small layout.altitudeUncertainty = t .heights
+  number-small layout.confidence = omega (arith, t .confidences)
+  number-small layout.count = omega arith
+  number-small layout.innerRadius = omega arith
+  number-small layout.offset = omega arith
+  number-small layout.included = omega arith
+  number-small layout.bearing = omega arith
+  number-small layout.horizontalSpeed = omega arith
+  number-small layout.down = omega arith
+  number-small layout.verticalSpeed = omega arith
+  number-small layout.speedUncertainty = omega arith
+  number-small layout.verticalUncertainty = omega arith
 
   -- the kind has no row for it
   abbrev none : MessageField → Bool
@@ -139,28 +113,28 @@ module _ (k : Kind) (w : Wanted) (part : TakesPart k) (t : Tame w) where
   in-row f true e = rw (eqb-true (widthOf (shapeRows k 0) f) 0 e) (omega arith)
   in-row f false e = rw (full-width (shapeRows k 0) (part-full k part) f (eqb-false (widthOf (shapeRows k 0) f) 0 e)) (number-small f)
 
-  own-type : typeOf k ≡ rowNumber k w typeNumber
-  own-type = by-kind (λ j. typeOf j ≡ rowNumber j w typeNumber) refl refl refl refl refl k part
+  own-type : typeOf k ≡ rowNumber k w layout.typeNumber
+  own-type = by-kind (λ j. typeOf j ≡ rowNumber j w layout.typeNumber) refl refl refl refl refl k part
 
   -- ---- the record's numbers are these
 
   pub record-values : (f : MessageField) → valueOf (wantedRecord k w) f ≡ rowNumber k w f
-  record-values = values-of k (rowNumber k w) own-type (λ f. row-below f _ (number-small f)) (λ i h. (no-row (none (south (suc i))), no-row (none (latitude (suc i))), no-row (none (longitude (suc i)))))
+  record-values = values-of k (rowNumber k w) own-type (λ f. row-below f _ (number-small f)) (λ i h. (no-row (none (layout.south (suc i))), no-row (none (layout.latitude (suc i))), no-row (none (layout.longitude (suc i)))))
 
   pub record-rows : rowsOf (wantedRecord k w) ≡ shapeRows k 0
-  record-rows = part-rows k part (rowNumber k w count)
+  record-rows = part-rows k part (rowNumber k w layout.count)
 
   sound-rows : Sound (shapeRows k 0) (rowNumber k w)
   sound-rows = record {
     listed = part-listed k part;
     counted = record { least = λ u. absurd (omega (arith, part-uncounted k part)); most = λ u. absurd (omega (arith, part-uncounted k part)) };
     angles = record {
-      orientations = λ u. row-below orientation 180 (t .orientations);
-      offsets = λ u. row-below offset 180 (omega arith);
-      includeds = λ u. row-below included 180 (omega arith);
-      bearings = λ u. row-below bearing 360 (omega arith);
+      orientations = λ u. row-below layout.orientation 180 (t .orientations);
+      offsets = λ u. row-below layout.offset 180 (omega arith);
+      includeds = λ u. row-below layout.included 180 (omega arith);
+      bearings = λ u. row-below layout.bearing 360 (omega arith);
     };
-    sure = record { confidences = λ u. row-below confidence 101 (t .confidences) };
+    sure = record { confidences = λ u. row-below layout.confidence 101 (t .confidences) };
     fields = record { each = λ f. in-row f _ refl };
   }
 

@@ -17,33 +17,8 @@ use Rattle.fields.specs.Quantities.{Held}
 use Rattle.octets.specs.Codes.{bitOf, complement}
 use Rattle.layout.specs.declared.shape.Kind.{Kind}
 use Rattle.layout.specs.declared.shape.Shape.{Shape}
-use Rattle.layout.specs.Layout.{
-  MessageField,
-  typeNumber,
-  count,
-  south,
-  latitude,
-  longitude,
-  depth,
-  altitude,
-  uncertainty,
-  semiMajor,
-  semiMinor,
-  orientation,
-  altitudeUncertainty,
-  confidence,
-  innerRadius,
-  offset,
-  included,
-  bearing,
-  horizontalSpeed,
-  down,
-  verticalSpeed,
-  speedUncertainty,
-  verticalUncertainty,
-  shapeRows,
-  typeOf,
-}
+use Rattle.layout.specs.Layout.{MessageField, shapeRows, typeOf}
+use Rattle.layout.specs.Layout as layout
 use Rattle.layout.specs.Rows.{widthOf, lengthOf, message}
 use Rattle.layout.specs.Shapes.{shapeOf, rowsOf, valueOf}
 use Rattle.requests.specs.declared.Request.{Request}
@@ -140,44 +115,44 @@ abbrev pub hasRow : Kind → MessageField → Bool
 hasRow k f = ltb 0 (widthOf (shapeRows k 0) f)
 
 abbrev pub hasArea : Kind → Bool
-hasArea k = cond (hasRow k semiMajor) true (hasRow k uncertainty)
+hasArea k = cond (hasRow k layout.semiMajor) true (hasRow k layout.uncertainty)
 
 -- it has what is asked, and nothing else; with no confidence field, none is asked
 pub record Able (w : Wanted) (k : Kind) : Type 0 where
   pub part : TakesPart k
-  pub altitudes : hasRow k altitude ≡ w .altitude .asked
+  pub altitudes : hasRow k layout.altitude ≡ w .altitude .asked
   pub areas : hasArea k ≡ w .area .asked
-  pub heights : hasRow k altitudeUncertainty ≡ w .«altitude_uncertainty» .asked
-  pub confidences : hasRow k confidence ≡ false → w .confidence .0 ≡ 0
+  pub heights : hasRow k layout.altitudeUncertainty ≡ w .«altitude_uncertainty» .asked
+  pub confidences : hasRow k layout.confidence ≡ false → w .confidence .0 ≡ 0
 
 -- ---- the best message of one kind: the codes that are wanted, in the rows that the kind has
 
 abbrev pub wantedNumber : Kind → Wanted → MessageField → ℕ
-wantedNumber k w typeNumber = typeOf k
-wantedNumber k w (south zero) = bitOf (w .latitude .0)
-wantedNumber k w (south (suc i)) = 0
-wantedNumber k w (latitude zero) = w .latitude .1
-wantedNumber k w (latitude (suc i)) = 0
-wantedNumber k w (longitude zero) = complement (w .longitude .0)
-wantedNumber k w (longitude (suc i)) = 0
-wantedNumber k w depth = bitOf (w .altitude .code .0)
-wantedNumber k w altitude = w .altitude .code .1
-wantedNumber k w uncertainty = w .area .«semi_major» .0
-wantedNumber k w semiMajor = w .area .«semi_major» .0
-wantedNumber k w semiMinor = w .area .«semi_minor» .0
-wantedNumber k w orientation = w .area .orientation .0
-wantedNumber k w altitudeUncertainty = w .«altitude_uncertainty» .code .0
-wantedNumber k w confidence = w .confidence .0
-wantedNumber k w count = 0
-wantedNumber k w innerRadius = 0
-wantedNumber k w offset = 0
-wantedNumber k w included = 0
-wantedNumber k w bearing = 0
-wantedNumber k w horizontalSpeed = 0
-wantedNumber k w down = 0
-wantedNumber k w verticalSpeed = 0
-wantedNumber k w speedUncertainty = 0
-wantedNumber k w verticalUncertainty = 0
+wantedNumber k w layout.typeNumber = typeOf k
+wantedNumber k w (layout.south zero) = bitOf (w .latitude .0)
+wantedNumber k w (layout.south (suc i)) = 0
+wantedNumber k w (layout.latitude zero) = w .latitude .1
+wantedNumber k w (layout.latitude (suc i)) = 0
+wantedNumber k w (layout.longitude zero) = complement (w .longitude .0)
+wantedNumber k w (layout.longitude (suc i)) = 0
+wantedNumber k w layout.depth = bitOf (w .altitude .code .0)
+wantedNumber k w layout.altitude = w .altitude .code .1
+wantedNumber k w layout.uncertainty = w .area .«semi_major» .0
+wantedNumber k w layout.semiMajor = w .area .«semi_major» .0
+wantedNumber k w layout.semiMinor = w .area .«semi_minor» .0
+wantedNumber k w layout.orientation = w .area .orientation .0
+wantedNumber k w layout.altitudeUncertainty = w .«altitude_uncertainty» .code .0
+wantedNumber k w layout.confidence = w .confidence .0
+wantedNumber k w layout.count = 0
+wantedNumber k w layout.innerRadius = 0
+wantedNumber k w layout.offset = 0
+wantedNumber k w layout.included = 0
+wantedNumber k w layout.bearing = 0
+wantedNumber k w layout.horizontalSpeed = 0
+wantedNumber k w layout.down = 0
+wantedNumber k w layout.verticalSpeed = 0
+wantedNumber k w layout.speedUncertainty = 0
+wantedNumber k w layout.verticalUncertainty = 0
 
 -- what the kind has no row for is zero
 abbrev pub rowNumber : Kind → Wanted → MessageField → ℕ

@@ -8,7 +8,7 @@ use Rattle.layout.specs.declared.velocity.Velocity.{Velocity}
 use Rattle.layout.specs.declared.velocity.VelocityKind.{VelocityKind}
 use Rattle.layout.specs.Velocities.{velocityValueOf}
 use Rattle.layout.proofs.OneMessage.{write-outcome-one}
-use Rattle.velocity_octets.specs.Carrying.{velocityRowsOf}
+use Rattle.velocity_octets.specs.VelocityOctets.{velocityRowsOf}
 use Rattle.velocities.specs.Reading.{VelocityFormAnswer}
 use Rattle.velocities.specs.Writing.{VelocityAnswer}
 

@@ -18,7 +18,7 @@ use Rattle.layout.specs.Layout.{bearing, velocityRows}
 use Rattle.layout.specs.Rows.{read}
 use Rattle.layout.specs.Demands.{TypeKnown, ReadAnswer}
 use Rattle.layout.specs.Velocities.{velocityKindIn, velocityRowsIn, velocityIn, blankVelocity, ReadsVelocity}
-use Rattle.velocity_octets.specs.Carrying.{VelocityOfLength, velocityOfKind}
+use Rattle.velocity_octets.specs.VelocityOctets.{VelocityOfLength, velocityOfKind}
 use Rattle.velocities.specs.Reading.{VelocityFormAnswer, VelocityReadingRefused}
 use Rattle.velocities.proofs.DemandLaws.{no-count, no-confidence, sound-bearing, bearing-sound}
 

@@ -10,34 +10,8 @@ use Rattle.octets.specs.Codes.{bitOf}
 use Rattle.layout.specs.declared.velocity.VelocityKind.{VelocityKind}
 use Rattle.layout.specs.declared.velocity.VelocityKind.the-variants.{Nothing, Horizontal, HorizontalVertical, HorizontalUncertain, HorizontalVerticalUncertain}
 use Rattle.layout.specs.declared.velocity.Velocity.{Velocity}
-use Rattle.layout.specs.Layout.{
-  MessageField,
-  typeNumber,
-  count,
-  south,
-  latitude,
-  longitude,
-  depth,
-  altitude,
-  uncertainty,
-  semiMajor,
-  semiMinor,
-  orientation,
-  altitudeUncertainty,
-  confidence,
-  innerRadius,
-  offset,
-  included,
-  bearing,
-  horizontalSpeed,
-  down,
-  verticalSpeed,
-  speedUncertainty,
-  verticalUncertainty,
-  Row,
-  velocityRows,
-  velocityTypeOf,
-}
+use Rattle.layout.specs.Layout.{MessageField, Row, velocityRows, velocityTypeOf}
+use Rattle.layout.specs.Layout as layout
 use Rattle.layout.specs.Rows.{widthOf}
 use Rattle.layout.specs.Demands.{TypeKnown, InFields}
 use Rattle.layout.specs.Velocities.{velocityValueOf}
@@ -62,33 +36,33 @@ bit-zero false h = refl
 
 -- by the fields that some velocity has; every other number is zero
 module _ (x : Velocity) (rows : List Row)
-    (t : velocityTypeOf (x .kind) < 2 ^ widthOf rows typeNumber) (b : x .bearing .0 < 2 ^ widthOf rows bearing)
-    (s : x .«horizontal_speed» .0 < 2 ^ widthOf rows horizontalSpeed) (d : bitOf (x .«vertical_speed» .0) < 2 ^ widthOf rows down)
-    (v : x .«vertical_speed» .1 < 2 ^ widthOf rows verticalSpeed) (u : x .uncertainty .0 < 2 ^ widthOf rows speedUncertainty)
-    (w : x .«vertical_uncertainty» .0 < 2 ^ widthOf rows verticalUncertainty) where
+    (t : velocityTypeOf (x .kind) < 2 ^ widthOf rows layout.typeNumber) (b : x .bearing .0 < 2 ^ widthOf rows layout.bearing)
+    (s : x .«horizontal_speed» .0 < 2 ^ widthOf rows layout.horizontalSpeed) (d : bitOf (x .«vertical_speed» .0) < 2 ^ widthOf rows layout.down)
+    (v : x .«vertical_speed» .1 < 2 ^ widthOf rows layout.verticalSpeed) (u : x .uncertainty .0 < 2 ^ widthOf rows layout.speedUncertainty)
+    (w : x .«vertical_uncertainty» .0 < 2 ^ widthOf rows layout.verticalUncertainty) where
   one : (f : MessageField) → velocityValueOf x f < 2 ^ widthOf rows f
-  one typeNumber = t
-  one bearing = b
-  one horizontalSpeed = s
-  one down = d
-  one verticalSpeed = v
-  one speedUncertainty = u
-  one verticalUncertainty = w
-  one count = pow-pos _
-  one (south i) = pow-pos _
-  one (latitude i) = pow-pos _
-  one (longitude i) = pow-pos _
-  one depth = pow-pos _
-  one altitude = pow-pos _
-  one uncertainty = pow-pos _
-  one semiMajor = pow-pos _
-  one semiMinor = pow-pos _
-  one orientation = pow-pos _
-  one altitudeUncertainty = pow-pos _
-  one confidence = pow-pos _
-  one innerRadius = pow-pos _
-  one offset = pow-pos _
-  one included = pow-pos _
+  one layout.typeNumber = t
+  one layout.bearing = b
+  one layout.horizontalSpeed = s
+  one layout.down = d
+  one layout.verticalSpeed = v
+  one layout.speedUncertainty = u
+  one layout.verticalUncertainty = w
+  one layout.count = pow-pos _
+  one (layout.south i) = pow-pos _
+  one (layout.latitude i) = pow-pos _
+  one (layout.longitude i) = pow-pos _
+  one layout.depth = pow-pos _
+  one layout.altitude = pow-pos _
+  one layout.uncertainty = pow-pos _
+  one layout.semiMajor = pow-pos _
+  one layout.semiMinor = pow-pos _
+  one layout.orientation = pow-pos _
+  one layout.altitudeUncertainty = pow-pos _
+  one layout.confidence = pow-pos _
+  one layout.innerRadius = pow-pos _
+  one layout.offset = pow-pos _
+  one layout.included = pow-pos _
 
   in-fields : InFields rows (velocityValueOf x)
   in-fields = record { each = one }
@@ -117,24 +91,24 @@ module _ (x : Velocity) where
 
   pub horizontal-zero : In Horizontal → AreZero (x .«vertical_speed» .0) (x .«vertical_speed» .1) (x .uncertainty .0) (x .«vertical_uncertainty» .0)
   horizontal-zero h = record {
-    downs = bit-zero _ (h .each down);
-    verticals = omega (arith, h .each verticalSpeed);
-    uncertainties = omega (arith, h .each speedUncertainty);
-    verticalUncertainties = omega (arith, h .each verticalUncertainty);
+    downs = bit-zero _ (h .each layout.down);
+    verticals = omega (arith, h .each layout.verticalSpeed);
+    uncertainties = omega (arith, h .each layout.speedUncertainty);
+    verticalUncertainties = omega (arith, h .each layout.verticalUncertainty);
   }
 
   pub vertical-zero : In HorizontalVertical → AreZero false 0 (x .uncertainty .0) (x .«vertical_uncertainty» .0)
   vertical-zero h = record {
     downs = refl;
     verticals = refl;
-    uncertainties = omega (arith, h .each speedUncertainty);
-    verticalUncertainties = omega (arith, h .each verticalUncertainty);
+    uncertainties = omega (arith, h .each layout.speedUncertainty);
+    verticalUncertainties = omega (arith, h .each layout.verticalUncertainty);
   }
 
   pub uncertain-zero : In HorizontalUncertain → AreZero (x .«vertical_speed» .0) (x .«vertical_speed» .1) 0 (x .«vertical_uncertainty» .0)
   uncertain-zero h = record {
-    downs = bit-zero _ (h .each down);
-    verticals = omega (arith, h .each verticalSpeed);
+    downs = bit-zero _ (h .each layout.down);
+    verticals = omega (arith, h .each layout.verticalSpeed);
     uncertainties = refl;
-    verticalUncertainties = omega (arith, h .each verticalUncertainty);
+    verticalUncertainties = omega (arith, h .each layout.verticalUncertainty);
   }

@@ -6,7 +6,7 @@ use Rattle.ground.proofs.AnswerLaws.{when-done}
 use Rattle.layout.specs.declared.velocity.Velocity.{Velocity}
 use Rattle.layout.specs.Rows.{lengthOf}
 use Rattle.layout.specs.Demands.{TypeKnown}
-use Rattle.velocity_octets.specs.Carrying.{velocityRowsOf, VelocityInFields, VelocityStorable}
+use Rattle.velocity_octets.specs.VelocityOctets.{velocityRowsOf, VelocityInFields, VelocityStorable}
 use Rattle.velocities.specs.Writing.{VelocityAnswer}
 use Rattle.velocities.proofs.DemandLaws.{no-count, no-confidence, sound-bearing, bearing-sound}
 

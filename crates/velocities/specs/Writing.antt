@@ -5,7 +5,7 @@ use Prim.Native.Nat.{ℕ}
 use Rattle.layout.specs.declared.velocity.Velocity.{Velocity}
 use Rattle.layout.specs.Demands.{WriteAnswer}
 use Rattle.layout.specs.Velocities.{velocityValueOf}
-use Rattle.velocity_octets.specs.Carrying.{velocityRowsOf}
+use Rattle.velocity_octets.specs.VelocityOctets.{velocityRowsOf}
 
 abbrev pub VelocityAnswer : Velocity → ℕ → ℕ → Type 0
 VelocityAnswer x = WriteAnswer (velocityRowsOf x) (velocityValueOf x)

@@ -11,7 +11,7 @@ ghost use Rattle.layout.specs.Layout.{velocityRows};
 ghost use Rattle.layout.specs.Rows.{lengthOf};
 ghost use Rattle.layout.specs.Demands.{TypeKnown};
 ghost use Rattle.velocities.specs.Reading.{VelocityFormAnswer};
-ghost use Rattle.velocity_octets.specs.Carrying.{velocityRowsOf, VelocityInFields};
+ghost use Rattle.velocity_octets.specs.VelocityOctets.{velocityRowsOf, VelocityInFields};
 ghost use Rattle.velocities.specs.Writing.{VelocityAnswer, AreZero};
 
 // 2 and 3, of so many octets.

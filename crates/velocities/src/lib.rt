@@ -13,7 +13,7 @@ ghost use Rattle.ground.specs.Answers.{outcomeNumber};
 ghost use Rattle.layout.specs.Rows.{lengthOf};
 ghost use Rattle.layout.specs.Velocities.{ReadsVelocity, WritesVelocity};
 ghost use Rattle.velocities.specs.Reading.{VelocityReadingRefused};
-ghost use Rattle.velocity_octets.specs.Carrying.{velocityRowsOf};
+ghost use Rattle.velocity_octets.specs.VelocityOctets.{velocityRowsOf};
 ghost use Rattle.velocities.specs.Writing.{VelocityAnswer};
 
 // The record in a message, or the refusal. Each octet is looked at once, and 5 is judged on the record.

@@ -8,13 +8,14 @@ use lib.Seq.{sets, sets-eq}
 use Rattle.layout.specs.declared.velocity.VelocityKind.{VelocityKind}
 use Rattle.layout.specs.declared.velocity.VelocityKind.the-variants.{Nothing, Horizontal, HorizontalVertical, HorizontalUncertain, HorizontalVerticalUncertain}
 use Rattle.layout.specs.declared.velocity.Velocity.{Velocity}
-use Rattle.layout.specs.Layout.{MessageField, Row, bearing, horizontalSpeed, down, verticalSpeed, speedUncertainty, verticalUncertainty, velocityRows, velocityTypeOf}
+use Rattle.layout.specs.Layout.{MessageField, Row, velocityRows, velocityTypeOf}
+use Rattle.layout.specs.Layout as layout
 use Rattle.layout.specs.Rows.{lengthOf, message}
 use Rattle.layout.specs.Demands.{InFields}
 use Rattle.layout.specs.Velocities.{velocityValueOf}
 use Rattle.layout.proofs.TidyLaws.{message-length}
 use Rattle.layout.proofs.VelocityMessageLaws.{horizontal-message, vertical-message, uncertain-message, all-message}
-use Rattle.velocity_octets.specs.Carrying.{VelocityStorable, Stored, firstNumber, front}
+use Rattle.velocity_octets.specs.VelocityOctets.{VelocityStorable, Stored, firstNumber, front}
 
 -- a message that is stored from the first octet on
 in-front : (rows : List Row) (value : MessageField → ℕ) (before after m : List ℕ) → message rows value ≡ m → lengthOf rows ≤ length before → after ≡ sets before 0 m
@@ -25,11 +26,11 @@ in-front rows value before after m e fits h =
     h ∙ sets-eq m before 0 (omega arith) ∙ rw (n, e)
 
 nine-bits : (x : Velocity) (k : VelocityKind) → InFields (velocityRows k) (velocityValueOf x) → x .bearing .0 < 512
-nine-bits x Nothing v = omega (arith, v .each bearing)
-nine-bits x Horizontal v = v .each bearing
-nine-bits x HorizontalVertical v = v .each bearing
-nine-bits x HorizontalUncertain v = v .each bearing
-nine-bits x HorizontalVerticalUncertain v = v .each bearing
+nine-bits x Nothing v = omega (arith, v .each layout.bearing)
+nine-bits x Horizontal v = v .each layout.bearing
+nine-bits x HorizontalVertical v = v .each layout.bearing
+nine-bits x HorizontalUncertain v = v .each layout.bearing
+nine-bits x HorizontalVerticalUncertain v = v .each layout.bearing
 
 module _ (x : Velocity) (room : ℕ) (can : VelocityStorable x room) where
   pub bearing-fits : x .bearing .0 < 512
@@ -55,20 +56,20 @@ module _ (x : Velocity) (before after : List ℕ) (can : VelocityStorable x (len
     pub horizontal-stored : x .kind ≡ Horizontal → after ≡ sets before 0 (front first (x .«horizontal_speed» .0)) → Stored x before after
     horizontal-stored e h =
         let v = own-fields x _ can Horizontal e in
-        own-stored Horizontal _ e (horizontal-message (velocityValueOf x) (v .each horizontalSpeed) first (omega (arith, v .each down))) h
+        own-stored Horizontal _ e (horizontal-message (velocityValueOf x) (v .each layout.horizontalSpeed) first (omega (arith, v .each layout.down))) h
 
     pub vertical-stored : x .kind ≡ HorizontalVertical
         → after ≡ sets before 0 (front first (x .«horizontal_speed» .0) ++ (x .«vertical_speed» .1 ∷ [])) → Stored x before after
     vertical-stored e h =
         let v = own-fields x _ can HorizontalVertical e in
-        own-stored HorizontalVertical _ e (vertical-message (velocityValueOf x) (v .each horizontalSpeed) first (omega arith) (v .each verticalSpeed)) h
+        own-stored HorizontalVertical _ e (vertical-message (velocityValueOf x) (v .each layout.horizontalSpeed) first (omega arith) (v .each layout.verticalSpeed)) h
 
     pub uncertain-stored : x .kind ≡ HorizontalUncertain
         → after ≡ sets before 0 (front first (x .«horizontal_speed» .0) ++ (x .uncertainty .0 ∷ [])) → Stored x before after
     uncertain-stored e h =
         let v = own-fields x _ can HorizontalUncertain e in
         own-stored HorizontalUncertain _ e
-        (uncertain-message (velocityValueOf x) (v .each horizontalSpeed) first (omega (arith, v .each down)) (v .each speedUncertainty)) h
+        (uncertain-message (velocityValueOf x) (v .each layout.horizontalSpeed) first (omega (arith, v .each layout.down)) (v .each layout.speedUncertainty)) h
 
     pub all-stored : x .kind ≡ HorizontalVerticalUncertain
         → after ≡ sets before 0 (front first (x .«horizontal_speed» .0) ++ (x .«vertical_speed» .1 ∷ x .uncertainty .0 ∷ x .«vertical_uncertainty» .0 ∷ []))
@@ -76,4 +77,4 @@ module _ (x : Velocity) (before after : List ℕ) (can : VelocityStorable x (len
     all-stored e h =
         let v = own-fields x _ can HorizontalVerticalUncertain e in
         own-stored HorizontalVerticalUncertain _ e
-        (all-message (velocityValueOf x) (v .each horizontalSpeed) first (omega arith) (v .each verticalSpeed) (v .each speedUncertainty) (v .each verticalUncertainty)) h
+        (all-message (velocityValueOf x) (v .each layout.horizontalSpeed) first (omega arith) (v .each layout.verticalSpeed) (v .each layout.speedUncertainty) (v .each layout.verticalUncertainty)) h

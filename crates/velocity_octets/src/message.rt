@@ -7,7 +7,7 @@ ghost use Prim.Native.Nat.{_<_, _≤_};
 ghost use lib.ListN.{length};
 ghost use lib.Seq.{sets};
 ghost use Rattle.octets.specs.Codes.{bitOf};
-ghost use Rattle.velocity_octets.specs.Carrying.{VelocityStorable, Stored, firstNumber, front};
+ghost use Rattle.velocity_octets.specs.VelocityOctets.{VelocityStorable, Stored, firstNumber, front};
 
 // Stores the message.
 pub fn store_velocity(out: &mut [u8], velocity: Velocity)

@@ -11,28 +11,8 @@ use Rattle.fields.specs.Fields as field
 use Rattle.fields.specs.Quantities.{quantityOf}
 use Rattle.layout.specs.Layout.{Row}
 use Rattle.layout.specs.Layout as layout
-use Rattle.quantities.specs.Places.{
-  Place,
-  latitude,
-  longitude,
-  altitude,
-  uncertainty,
-  semiMajor,
-  semiMinor,
-  orientation,
-  altitudeUncertainty,
-  confidence,
-  innerRadius,
-  offset,
-  included,
-  bearing,
-  horizontalSpeed,
-  verticalSpeed,
-  speedUncertainty,
-  verticalUncertainty,
-  fieldOf,
-  PlaceCodes,
-}
+use Rattle.quantities.specs.Places.{Place, fieldOf, PlaceCodes}
+use Rattle.quantities.specs.Places as place
 
 -- a number after a space, and the mark of a missingText one
 unfoldable pub numberText : ℤ → List ℕ
@@ -69,25 +49,25 @@ abbrev pub rowText : PlaceCodes → ℕ → layout.MessageField → List ℕ
 rowText code n layout.typeNumber = []
 rowText code n layout.count = numberText (pos n)
 rowText code n (layout.south i) = []
-rowText code n (layout.latitude i) = placeText code (latitude i)
-rowText code n (layout.longitude i) = placeText code (longitude i)
+rowText code n (layout.latitude i) = placeText code (place.latitude i)
+rowText code n (layout.longitude i) = placeText code (place.longitude i)
 rowText code n layout.depth = []
-rowText code n layout.altitude = placeText code altitude
-rowText code n layout.uncertainty = placeText code uncertainty
-rowText code n layout.semiMajor = placeText code semiMajor
-rowText code n layout.semiMinor = placeText code semiMinor
-rowText code n layout.orientation = placeText code orientation
-rowText code n layout.altitudeUncertainty = placeText code altitudeUncertainty
-rowText code n layout.confidence = placeText code confidence
-rowText code n layout.innerRadius = placeText code innerRadius
-rowText code n layout.offset = placeText code offset
-rowText code n layout.included = placeText code included
-rowText code n layout.bearing = placeText code bearing
-rowText code n layout.horizontalSpeed = placeText code horizontalSpeed
+rowText code n layout.altitude = placeText code place.altitude
+rowText code n layout.uncertainty = placeText code place.uncertainty
+rowText code n layout.semiMajor = placeText code place.semiMajor
+rowText code n layout.semiMinor = placeText code place.semiMinor
+rowText code n layout.orientation = placeText code place.orientation
+rowText code n layout.altitudeUncertainty = placeText code place.altitudeUncertainty
+rowText code n layout.confidence = placeText code place.confidence
+rowText code n layout.innerRadius = placeText code place.innerRadius
+rowText code n layout.offset = placeText code place.offset
+rowText code n layout.included = placeText code place.included
+rowText code n layout.bearing = placeText code place.bearing
+rowText code n layout.horizontalSpeed = placeText code place.horizontalSpeed
 rowText code n layout.down = []
-rowText code n layout.verticalSpeed = placeText code verticalSpeed
-rowText code n layout.speedUncertainty = placeText code speedUncertainty
-rowText code n layout.verticalUncertainty = placeText code verticalUncertainty
+rowText code n layout.verticalSpeed = placeText code place.verticalSpeed
+rowText code n layout.speedUncertainty = placeText code place.speedUncertainty
+rowText code n layout.verticalUncertainty = placeText code place.verticalUncertainty
 
 -- the rows' in their order
 abbrev pub rowsText : PlaceCodes → ℕ → List Row → List ℕ

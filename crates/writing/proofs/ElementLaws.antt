@@ -24,34 +24,8 @@ use Rattle.layout.specs.declared.Written.{Written}
 use Rattle.layout.specs.declared.shape.Kind.{Kind}
 use Rattle.layout.specs.declared.shape.Kind.the-variants.{Nothing, Point, Circle, Ellipse, Polygon, AltitudePoint, AltitudeEllipsoid, Arc}
 use Rattle.layout.specs.declared.shape.Shape.{Shape}
-use Rattle.layout.specs.Layout.{
-  MessageField,
-  typeNumber,
-  count,
-  south,
-  latitude,
-  longitude,
-  depth,
-  altitude,
-  uncertainty,
-  semiMajor,
-  semiMinor,
-  orientation,
-  altitudeUncertainty,
-  confidence,
-  innerRadius,
-  offset,
-  included,
-  bearing,
-  horizontalSpeed,
-  down,
-  verticalSpeed,
-  speedUncertainty,
-  verticalUncertainty,
-  Row,
-  shapeRows,
-  typeOf,
-}
+use Rattle.layout.specs.Layout.{MessageField, Row, shapeRows, typeOf}
+use Rattle.layout.specs.Layout as layout
 use Rattle.layout.specs.Demands.{TypeKnown, WriteAnswer, Writes}
 use Rattle.layout.specs.Shapes.{kindOf, valueOf, rowsOf, zeroLatitude, zeroLongitude, WritesShape}
 use Rattle.layout.proofs.shape.Shape.{the-type}
@@ -154,32 +128,32 @@ module _ (x : Shape) (holds : Held x) where
           sym (no-element (shapeElements x) at (omega arith)) ∙ sym (no-number r) ∙ sym (λ j. getD (bitOf (p j .0) ∷ p j .1 ∷ bitsOf (q j .0) ∷ []) r 0)
 
   pub value-said : (f : MessageField) → valueIn (shapeElements x) f ≡ valueOf x f
-  value-said typeNumber = refl
-  value-said count = refl
-  value-said (south zero) = refl
-  value-said (south (suc i)) = elements-at 0 i (16 + 3 * i) (omega arith) (omega arith)
-  value-said (latitude zero) = refl
-  value-said (latitude (suc i)) = elements-at 1 i (17 + 3 * i) (omega arith) (omega arith)
-  value-said (longitude zero) = ap complement (bits-back (x .longitude .0) (holds .turn))
-  value-said (longitude (suc i)) =
+  value-said layout.typeNumber = refl
+  value-said layout.count = refl
+  value-said (layout.south zero) = refl
+  value-said (layout.south (suc i)) = elements-at 0 i (16 + 3 * i) (omega arith) (omega arith)
+  value-said (layout.latitude zero) = refl
+  value-said (layout.latitude (suc i)) = elements-at 1 i (17 + 3 * i) (omega arith) (omega arith)
+  value-said (layout.longitude zero) = ap complement (bits-back (x .longitude .0) (holds .turn))
+  value-said (layout.longitude (suc i)) =
       ap (λ (n : ℕ). complement (fromBits n)) (elements-at 2 i (18 + 3 * i) (omega arith) (omega arith)) ∙ ap complement (bits-back (getD (x .longitudes) i zeroLongitude .0) (holds .turns i))
-  value-said depth = refl
-  value-said altitude = refl
-  value-said uncertainty = refl
-  value-said semiMajor = refl
-  value-said semiMinor = refl
-  value-said orientation = refl
-  value-said altitudeUncertainty = refl
-  value-said confidence = refl
-  value-said innerRadius = refl
-  value-said offset = refl
-  value-said included = refl
-  value-said bearing = refl
-  value-said horizontalSpeed = refl
-  value-said down = refl
-  value-said verticalSpeed = refl
-  value-said speedUncertainty = refl
-  value-said verticalUncertainty = refl
+  value-said layout.depth = refl
+  value-said layout.altitude = refl
+  value-said layout.uncertainty = refl
+  value-said layout.semiMajor = refl
+  value-said layout.semiMinor = refl
+  value-said layout.orientation = refl
+  value-said layout.altitudeUncertainty = refl
+  value-said layout.confidence = refl
+  value-said layout.innerRadius = refl
+  value-said layout.offset = refl
+  value-said layout.included = refl
+  value-said layout.bearing = refl
+  value-said layout.horizontalSpeed = refl
+  value-said layout.down = refl
+  value-said layout.verticalSpeed = refl
+  value-said layout.speedUncertainty = refl
+  value-said layout.verticalUncertainty = refl
 
   module _ (some : x .kind ≡ Nothing → ⊥) where
     rows-said : arrayRows (shapeElements x) ≡ rowsOf x

@@ -3,7 +3,7 @@ use native.Mathlib.Omega.{arith}
 use denote.Ref.{now}
 use Rattle.layout.specs.Velocities.{velocityValueOf}
 use Rattle.layout.proofs.WriteLaws.{done-answer, done-writes, refused-writes}
-use Rattle.velocity_octets.specs.Carrying.{velocityRowsOf}
+use Rattle.velocity_octets.specs.VelocityOctets.{velocityRowsOf}
 use Rattle.velocities.proofs.WriteLaws.{storable}
 use borrow.Author.Needs.{needs}
 use Rattle.velocities.proofs.write_velocity.Statement.{statement}

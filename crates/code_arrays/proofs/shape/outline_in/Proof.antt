@@ -4,7 +4,7 @@ use mathlib.Core.Path.{sym, ap, _∙_}
 use native.Mathlib.Omega.{arith}
 use lib.Dec.{eqb}
 use lib.ListN.{replicate}
-use Rattle.layout.specs.Layout.{altitude, uncertainty, semiMajor, semiMinor, orientation, altitudeUncertainty, confidence, innerRadius, offset, included}
+use Rattle.layout.specs.Layout as layout
 use Rattle.layout.specs.Shapes.{zeroLatitude, zeroLongitude}
 use Rattle.octets.specs.Codes.{complement}
 use Rattle.code_arrays.specs.CodeNumbers.{fromBits}
@@ -14,34 +14,34 @@ use Rattle.code_arrays.proofs.shape.outline_in.Statement.{statement}
 use Rattle.code_arrays.proofs.shape.outline_in.Tie as tie
 
 cast-t17 : tie.Need-cast-t17
-cast-t17 c = omega (arith, number (c .before .before .before .before .before .before .before .args .codes .now) (c .before .before .before .before .before .before .before .pre .1 .1) altitude, same-element (c .before .before .before .before .before .before .before .args .codes .now) 6 (omega arith))
+cast-t17 c = omega (arith, number (c .before .before .before .before .before .before .before .args .codes .now) (c .before .before .before .before .before .before .before .pre .1 .1) layout.altitude, same-element (c .before .before .before .before .before .before .before .args .codes .now) 6 (omega arith))
 
 cast-t21 : tie.Need-cast-t21
-cast-t21 c = omega (arith, number (c .before .before .before .before .before .before .before .before .args .codes .now) (c .before .before .before .before .before .before .before .before .pre .1 .1) uncertainty, same-element (c .before .before .before .before .before .before .before .before .args .codes .now) 7 (omega arith))
+cast-t21 c = omega (arith, number (c .before .before .before .before .before .before .before .before .args .codes .now) (c .before .before .before .before .before .before .before .before .pre .1 .1) layout.uncertainty, same-element (c .before .before .before .before .before .before .before .before .args .codes .now) 7 (omega arith))
 
 cast-t25 : tie.Need-cast-t25
-cast-t25 c = omega (arith, number (c .before .before .before .before .before .before .before .before .before .args .codes .now) (c .before .before .before .before .before .before .before .before .before .pre .1 .1) semiMajor, same-element (c .before .before .before .before .before .before .before .before .before .args .codes .now) 8 (omega arith))
+cast-t25 c = omega (arith, number (c .before .before .before .before .before .before .before .before .before .args .codes .now) (c .before .before .before .before .before .before .before .before .before .pre .1 .1) layout.semiMajor, same-element (c .before .before .before .before .before .before .before .before .before .args .codes .now) 8 (omega arith))
 
 cast-t29 : tie.Need-cast-t29
-cast-t29 c = omega (arith, number (c .before .before .before .before .before .before .before .before .before .before .args .codes .now) (c .before .before .before .before .before .before .before .before .before .before .pre .1 .1) semiMinor, same-element (c .before .before .before .before .before .before .before .before .before .before .args .codes .now) 9 (omega arith))
+cast-t29 c = omega (arith, number (c .before .before .before .before .before .before .before .before .before .before .args .codes .now) (c .before .before .before .before .before .before .before .before .before .before .pre .1 .1) layout.semiMinor, same-element (c .before .before .before .before .before .before .before .before .before .before .args .codes .now) 9 (omega arith))
 
 cast-t33 : tie.Need-cast-t33
-cast-t33 c = omega (arith, number (c .before .before .before .before .before .before .before .before .before .before .before .args .codes .now) (c .before .before .before .before .before .before .before .before .before .before .before .pre .1 .1) orientation, same-element (c .before .before .before .before .before .before .before .before .before .before .before .args .codes .now) 10 (omega arith))
+cast-t33 c = omega (arith, number (c .before .before .before .before .before .before .before .before .before .before .before .args .codes .now) (c .before .before .before .before .before .before .before .before .before .before .before .pre .1 .1) layout.orientation, same-element (c .before .before .before .before .before .before .before .before .before .before .before .args .codes .now) 10 (omega arith))
 
 cast-t37 : tie.Need-cast-t37
-cast-t37 c = omega (arith, number (c .before .before .before .before .before .before .before .before .before .before .before .before .args .codes .now) (c .before .before .before .before .before .before .before .before .before .before .before .before .pre .1 .1) altitudeUncertainty, same-element (c .before .before .before .before .before .before .before .before .before .before .before .before .args .codes .now) 11 (omega arith))
+cast-t37 c = omega (arith, number (c .before .before .before .before .before .before .before .before .before .before .before .before .args .codes .now) (c .before .before .before .before .before .before .before .before .before .before .before .before .pre .1 .1) layout.altitudeUncertainty, same-element (c .before .before .before .before .before .before .before .before .before .before .before .before .args .codes .now) 11 (omega arith))
 
 cast-t41 : tie.Need-cast-t41
-cast-t41 c = omega (arith, number (c .before .before .before .before .before .before .before .before .before .before .before .before .before .args .codes .now) (c .before .before .before .before .before .before .before .before .before .before .before .before .before .pre .1 .1) innerRadius, same-element (c .before .before .before .before .before .before .before .before .before .before .before .before .before .args .codes .now) 12 (omega arith))
+cast-t41 c = omega (arith, number (c .before .before .before .before .before .before .before .before .before .before .before .before .before .args .codes .now) (c .before .before .before .before .before .before .before .before .before .before .before .before .before .pre .1 .1) layout.innerRadius, same-element (c .before .before .before .before .before .before .before .before .before .before .before .before .before .args .codes .now) 12 (omega arith))
 
 cast-t45 : tie.Need-cast-t45
-cast-t45 c = omega (arith, number (c .before .before .before .before .before .before .before .before .before .before .before .before .before .before .args .codes .now) (c .before .before .before .before .before .before .before .before .before .before .before .before .before .before .pre .1 .1) offset, same-element (c .before .before .before .before .before .before .before .before .before .before .before .before .before .before .args .codes .now) 13 (omega arith))
+cast-t45 c = omega (arith, number (c .before .before .before .before .before .before .before .before .before .before .before .before .before .before .args .codes .now) (c .before .before .before .before .before .before .before .before .before .before .before .before .before .before .pre .1 .1) layout.offset, same-element (c .before .before .before .before .before .before .before .before .before .before .before .before .before .before .args .codes .now) 13 (omega arith))
 
 cast-t49 : tie.Need-cast-t49
-cast-t49 c = omega (arith, number (c .before .before .before .before .before .before .before .before .before .before .before .before .before .before .before .args .codes .now) (c .before .before .before .before .before .before .before .before .before .before .before .before .before .before .before .pre .1 .1) included, same-element (c .before .before .before .before .before .before .before .before .before .before .before .before .before .before .before .args .codes .now) 14 (omega arith))
+cast-t49 c = omega (arith, number (c .before .before .before .before .before .before .before .before .before .before .before .before .before .before .before .args .codes .now) (c .before .before .before .before .before .before .before .before .before .before .before .before .before .before .before .pre .1 .1) layout.included, same-element (c .before .before .before .before .before .before .before .before .before .before .before .before .before .before .before .args .codes .now) 14 (omega arith))
 
 cast-t53 : tie.Need-cast-t53
-cast-t53 c = omega (arith, number (c .before .before .before .before .before .before .before .before .before .before .before .before .before .before .before .before .args .codes .now) (c .before .before .before .before .before .before .before .before .before .before .before .before .before .before .before .before .pre .1 .1) confidence, same-element (c .before .before .before .before .before .before .before .before .before .before .before .before .before .before .before .before .args .codes .now) 15 (omega arith))
+cast-t53 c = omega (arith, number (c .before .before .before .before .before .before .before .before .before .before .before .before .before .before .before .before .args .codes .now) (c .before .before .before .before .before .before .before .before .before .before .before .before .before .before .before .before .pre .1 .1) layout.confidence, same-element (c .before .before .before .before .before .before .before .before .before .before .before .before .before .before .before .before .args .codes .now) 15 (omega arith))
 
 returns : tie.Need-returns
 returns c =

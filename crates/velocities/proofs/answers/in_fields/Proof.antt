@@ -9,7 +9,7 @@ use Rattle.layout.specs.declared.velocity.Velocity.{Velocity}
 use Rattle.layout.specs.Layout.{velocityRows}
 use Rattle.layout.specs.Demands.{InFields}
 use Rattle.layout.specs.Velocities.{velocityValueOf}
-use Rattle.velocity_octets.specs.Carrying.{VelocityInFields}
+use Rattle.velocity_octets.specs.VelocityOctets.{VelocityInFields}
 use Rattle.velocities.proofs.UnusedLaws.{Typed, unlisted, horizontal-in, vertical-in, uncertain-in, all-in, horizontal-zero, vertical-zero, uncertain-zero}
 use Rattle.velocities.proofs.answers.in_fields.Statement.{statement}
 use Rattle.velocities.proofs.answers.in_fields.Tie as tie

@@ -5,7 +5,7 @@ use native.Mathlib.Omega.{arith}
 use Rattle.ground.specs.Answers.{unmet, met}
 use Rattle.ground.proofs.AnswerLaws.{shown, refuted}
 use Rattle.layout.specs.Demands.{TypeKnown}
-use Rattle.velocity_octets.specs.Carrying.{velocityRowsOf}
+use Rattle.velocity_octets.specs.VelocityOctets.{velocityRowsOf}
 use Rattle.velocities.proofs.WriteLaws.{listed-write}
 use Rattle.velocities.proofs.answers.of_record.Statement.{statement}
 use Rattle.velocities.proofs.answers.of_record.Tie as tie

@@ -7,7 +7,7 @@ use native.Mathlib.Omega.{arith}
 use denote.Ref.{now}
 use Rattle.layout.specs.declared.velocity.VelocityKind.{VelocityKind}
 use Rattle.layout.specs.declared.velocity.VelocityKind.the-variants.{Horizontal, HorizontalVertical, HorizontalUncertain, HorizontalVerticalUncertain}
-use Rattle.velocity_octets.specs.Carrying.{VelocityOfLength, velocityOfKind}
+use Rattle.velocity_octets.specs.VelocityOctets.{VelocityOfLength, velocityOfKind}
 use Rattle.velocity_octets.proofs.record.velocity.Statement.{statement}
 use Rattle.velocity_octets.proofs.record.velocity.Tie as tie
 

@@ -8,7 +8,7 @@ use Rattle.octets.specs.Bits.{octets}
 use Rattle.octets.specs.Codes.{bitOf}
 use Rattle.layout.specs.declared.velocity.VelocityKind.{VelocityKind}
 use Rattle.layout.specs.declared.velocity.Velocity.{Velocity}
-use Rattle.layout.specs.Layout.{Row, row, down, verticalSpeed, motion, velocityRows}
+use Rattle.layout.specs.Layout.{Row, whole, verticalSpeed, downRow, motion, velocityRows}
 use Rattle.layout.specs.Rows.{read, lengthOf, message}
 use Rattle.layout.specs.Demands.{InFields}
 use Rattle.layout.specs.Velocities.{velocityOf, velocityValueOf}
@@ -25,7 +25,7 @@ abbrev pub motionOf : VelocityKind → List ℕ → Velocity
 motionOf k s = velocityOf k (read s motion)
 
 abbrev pub verticalOf : VelocityKind → List ℕ → Velocity
-verticalOf k s = velocityOf k (read s (row down 6 1 ∷ motion ++ row verticalSpeed 32 8 ∷ []))
+verticalOf k s = velocityOf k (read s (downRow ∷ motion ++ whole verticalSpeed 5 ∷ []))
 
 -- ---- a record's octets
 
