@@ -28,7 +28,7 @@ use Rattle.requests.proofs.CodedLaws.{coded-never}
 use Rattle.requests.proofs.TameLaws.{tame}
 use Rattle.requests.proofs.FoundLaws.{able-circle, able-ellipse, circle-best, ellipse-best}
 use Rattle.requests.proofs.BestLaws.{best-of-kinds}
-use Rattle.claims.specs.Figures.{Figure, chooses, FigureHolds, Each, asking, latitudes, longitudes, radii, heights, angles, speeds, Starred}
+use Rattle.claims.specs.Figures.{Figure, chooses, FigureHolds, Each, asking, latitudes, longitudes, radii, heights, angles, speeds, choices, Starred}
 
 -- the least code, where it is written out and is not 0, by two comparisons
 least-at : (scale num den R K : ℕ) → T (leb den num) → T (leb K 127) → T (leb (R * den ^ K) (scale * (num ^ K - den ^ K))) → T (ltb (scale * (num ^ (K - 1) - den ^ (K - 1))) (R * den ^ (K - 1))) → LeastCode (Covers scale num den) 127 R K
@@ -103,10 +103,10 @@ joined (x ∷ xs) ys a b = (a .0, joined xs ys (a .1) b)
 pub starred : Starred
 unfolding fromComplement
 starred =
-    joined latitudes _ (search each)
-    (joined longitudes _ (search each)
-    (joined radii _ (search each)
-    (joined heights _ (search each)
-    (joined angles _ (search each)
-    (joined speeds _ (search each)
+    joined latitudes (longitudes ++ radii ++ heights ++ angles ++ speeds ++ choices) (search each)
+    (joined longitudes (radii ++ heights ++ angles ++ speeds ++ choices) (search each)
+    (joined radii (heights ++ angles ++ speeds ++ choices) (search each)
+    (joined heights (angles ++ speeds ++ choices) (search each)
+    (joined angles (speeds ++ choices) (search each)
+    (joined speeds choices (search each)
     (chosen 51160 20 (omega arith) (search each) Circle _ round refl, (chosen 51159 19 (omega arith) (search each) Ellipse _ tighter refl, tt)))))))
