@@ -43,7 +43,7 @@ module _ (rows : List Row) (tidy : Tidy rows) (s : List ℕ) (read : ReadAnswer 
       }
 
 -- a record that is written is taken, whatever the room
-taken-alone : (rows : List Row) (value : MessageField → ℕ) (before after : List ℕ) (w : Written) → Writes rows value before after w → w .outcome ≡ Done → WriteAnswer rows value (lengthOf rows) 0
+pub taken-alone : (rows : List Row) (value : MessageField → ℕ) (before after : List ℕ) (w : Written) → Writes rows value before after w → w .outcome ≡ Done → WriteAnswer rows value (lengthOf rows) 0
 taken-alone rows value before after w writes done =
     write-done rows value (lengthOf rows)
     (sound rows value (length before) (subst (λ (o : Outcome). WriteAnswer rows value (length before) (outcomeNumber o)) done (writes .answer)) .0)

@@ -1,9 +1,13 @@
+pub mod ArrayDemand2
+pub mod CodesSaid
 pub mod Demand2
 pub mod Demand3
 pub mod OneCall
 pub mod OneField
 pub mod OneRequest
 pub mod PlaceLaws
+pub mod QuantitiesSaid
 pub mod ShapeReturns
+pub mod SmallQuantities
 pub mod Starred
 pub mod VelocityReturns

@@ -50,7 +50,7 @@ module _ {A : Type 0} (f : ℕ → A) where
   at-upto (suc n) i z h = last-or-before n i z h (at-upto n i z) (ltb i n) refl
 
   -- n elements are a list's where each is
-  upto-list : (n : ℕ) (l : List A) (z : A) → length l ≡ n → ((i : ℕ) → i < n → f i ≡ getD l i z) → upto n f ≡ l
+  pub upto-list : (n : ℕ) (l : List A) (z : A) → length l ≡ n → ((i : ℕ) → i < n → f i ≡ getD l i z) → upto n f ≡ l
   upto-list n l z e same =
       ext-getD z (upto n f) l (length-upto n ∙ sym e) (λ i h. at-upto n i z (rw (length-upto n) at h) ∙ same i (rw (length-upto n) at h))
 

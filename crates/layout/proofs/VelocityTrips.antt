@@ -36,7 +36,7 @@ type-read HorizontalVertical s h = refl
 type-read HorizontalUncertain s h = refl
 type-read HorizontalVerticalUncertain s h = refl
 
-kind-back : (k : VelocityKind) → TypeKnown (velocityRows k) → velocityKindOf (velocityTypeOf k) ≡ k
+pub kind-back : (k : VelocityKind) → TypeKnown (velocityRows k) → velocityKindOf (velocityTypeOf k) ≡ k
 kind-back Nothing h = absurd (omega arith)
 kind-back Horizontal h = refl
 kind-back HorizontalVertical h = refl
@@ -56,7 +56,7 @@ module _ (k : VelocityKind) (value : MessageField → ℕ) (type-number : veloci
   unused : (f : MessageField) → value f < 1 → 0 ≡ value f
   unused f h = omega arith
 
-  values-of : (f : MessageField) → velocityValueOf (velocityOf k value) f ≡ value f
+  pub values-of : (f : MessageField) → velocityValueOf (velocityOf k value) f ≡ value f
   values-of layout.typeNumber = type-number
   values-of layout.bearing = refl
   values-of layout.horizontalSpeed = refl
