@@ -1,7 +1,7 @@
 #!/usr/bin/env python3
 """Feeds a log to the lister in pieces of 1, 7 and 65536 octets, and says whether it gives one and the same text.
 
-  tests/pieces.py LOG    (a log: tests/listing.py log 50000000 > LOG; build the lister first: ./gad list </dev/null)
+  tests/pieces.py [LOG]    without a log it makes one of a million octets (tests/listing.py log OCTETS makes others)
 """
 import hashlib
 import os
@@ -33,8 +33,9 @@ def fed(log, size):
     return digest.hexdigest(), tail.splitlines()[-1].decode()
 
 
-def main(path):
-    log = Path(path).read_bytes()
+def main(words):
+    subprocess.run([str(ROOT / "gad"), "list"], stdin=subprocess.DEVNULL, stdout=subprocess.DEVNULL, check=True)
+    log = Path(words[0]).read_bytes() if words else subprocess.check_output([str(ROOT / "tests" / "listing.py"), "log", "1000000"])
     answers = []
     for size in (1, 7, 65536):
         answers.append(fed(log, size))
@@ -44,4 +45,4 @@ def main(path):
 
 
 if __name__ == "__main__":
-    main(sys.argv[1])
+    main(sys.argv[1:])

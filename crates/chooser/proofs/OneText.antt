@@ -34,6 +34,6 @@ line-answer-one : (list n : ℕ) (line t u : List ℕ) → ChooserAnswer list n 
 line-answer-one list n line t u a b = answer-to-one (a .is) (subst (λ (q : Asked). AnswerTo list n q u) (sym (line-asks-one (a .asks) (b .asks))) (b .is))
 
 pub choosing-one : {list : ℕ} {first : List (List ℕ)} {start start′ block block′ out out′ : List ℕ} {r r′ : Run} (a : Ran (ChooserAnswer list) first start block out r) (b : Ran (ChooserAnswer list) first start′ block′ out′ r′)
-    → a .asked .read ≡ b .asked .read → length (a .asked .read) < mostOctets → r .output .sink .closed ≡ false → r′ .output .sink .closed ≡ false
+    → a .asked .read ≡ b .asked .read → length (a .asked .read) < mostOctets → r .output .sink .closed ≡ false → r′ .output .sink .closed ≡ false → r .input .source .failed ≡ false → r′ .input .source .failed ≡ false
     → a .put .written ≡ b .put .written
 choosing-one {list} = ran-one (line-answer-one list)

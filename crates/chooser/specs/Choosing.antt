@@ -14,7 +14,8 @@ use Rattle.request_lines.specs.declared.answers.Answer.the-variants.{Unreadable
 use Rattle.text.specs.Text.{PutsWithin}
 use Rattle.streaming.specs.Answering.{Taken, Stopped, Ran}
 use Rattle.streaming.specs.Inputs.{longestLine}
-use Rattle.streaming.specs.declared.input.Input.{Input}
+use Rattle.streaming.specs.Outputs.{PutOut}
+use Rattle.streaming.specs.declared.output.Output.{Output}
 use Rattle.streaming.specs.declared.output.Run.{Run}
 
 -- the receiver's list in a line; one that is too long to be kept is the empty list
@@ -59,9 +60,15 @@ pub record PutsChosen (list n : ℕ) (asked : Asked) (before : List ℕ) (at : �
   pub puts : PutsWithin 65 before at text after next
   pub inside : next ≤ length before
 
--- the lines behind those that were taken are answered
-abbrev pub AnswersRest : ℕ → Input → List ℕ → List ℕ → List ℕ → Run → Type 0
-AnswersRest list i before block out r = (first : List (List ℕ)) (start : List ℕ) → Taken first start before i → Stopped (ChooserAnswer list) first start block out r
+-- nothing is put out, and no line answered
+pub record NoneAnswered (out : List ℕ) (o : Output) : Type 0 where
+  pub put : PutOut [] out o
+  pub count : o .answered ≡ 0
+
+-- the lines behind those that were taken are answered, where none was before
+abbrev pub AnswersRest : ℕ → Run → List ℕ → List ℕ → List ℕ → List ℕ → Run → Type 0
+AnswersRest list s before block x out r =
+    (first : List (List ℕ)) (start : List ℕ) → Taken first start before (s .input) → NoneAnswered x (s .output) → Stopped (ChooserAnswer list) first start block out r
 
 -- where it stands when it stops
 pub record StoppedChoosing (start block out : List ℕ) (r : Run) : Type 0 where

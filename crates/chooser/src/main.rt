@@ -3,6 +3,7 @@
 // how many requests there were.
 use request_lines::Answer;
 use request_lines::Asked;
+use request_lines::ListRead;
 use streaming::Input;
 use streaming::Output;
 use streaming::Run;
@@ -33,45 +34,45 @@ fn run(out: &mut [u8; 65536], block: &mut [u8; 65536]) -> Run
     ensures { λ r. ⌜ ChoosesAll (now (block .entry)) (now (block .exit)) (now (out .exit)) r ⌝ }
 {
     let answered = answer_input(out, block);
-    let input = answered.input;
-    let output = streaming::write_end(out, answered.output);
-    Run { input, output }
+    streaming::write_end(out, answered)
 }
 
 // Takes the receiver's list from the first line, and answers every line after it.
 fn answer_input(out: &mut [u8; 65536], block: &mut [u8; 65536]) -> Run
     ensures { λ r. ⌜ StoppedChoosing (now (block .entry)) (now (block .exit)) (now (out .exit)) r ⌝ }
 {
-    let first = streaming::next_line(block, streaming::no_input());
-    if !first.ready {
-        let output = streaming::no_output();
-        return Run {
-            input: first,
-            output,
-        };
+    let input = streaming::no_input();
+    let output = streaming::no_output();
+    let first = streaming::next_line(out, block, Run { input, output });
+    let line = first.input;
+    if !line.ready {
+        return first;
     }
-    let list = list_held(block, first);
+    let list = list_held(block, line);
     answer_lines(out, block, first, list)
 }
 
-// Answers every line after the first. The end of the input ends it, and a closed output.
-fn answer_lines(out: &mut [u8; 65536], block: &mut [u8; 65536], first: Input, list: u16) -> Run
-    requires { ⌜ SoundInput first ⌝ }
-    ensures { λ r. ⌜ AnswersRest list first (now (block .entry)) (now (block .exit)) (now (out .exit)) r ⌝ }
+// Answers every line after the first. The end of the input ends it, a closed output, and a read that fails.
+fn answer_lines(out: &mut [u8; 65536], block: &mut [u8; 65536], first: Run, list: u16) -> Run
+    requires { ⌜ SoundInput (first .input) ⌝ }
+    requires { ⌜ SoundOutput (first .output) ⌝ }
+    requires { ⌜ first .output .sink .closed ≡ false ⌝ }
+    ensures { λ r. ⌜ AnswersRest list first (now (block .entry)) (now (block .exit)) (now (out .entry)) (now (out .exit)) r ⌝ }
 {
-    let mut input = first;
-    let mut output = streaming::no_output();
-    while output.answered < MOST_LINES {
-        input = streaming::next_line(block, input);
+    let mut run = first;
+    while run.output.answered < MOST_LINES {
+        let next = streaming::next_line(out, block, run);
+        let input = next.input;
         if !input.ready {
-            return Run { input, output };
+            return next;
         }
-        output = answer_line(out, block, input, list, output);
+        let output = answer_line(out, block, input, list, next.output);
+        run = Run { input, output };
         if streaming::is_closed(output.sink) {
-            return Run { input, output };
+            return run;
         }
     }
-    Run { input, output }
+    run
 }
 
 // Answers the line that is held.
@@ -123,11 +124,25 @@ fn list_held(block: &[u8], input: Input) -> u16
     ensures { λ r. ⌜ ((line : List ℕ) → Line (now (block .entry)) input line → LineLists line r) ⌝ }
 {
     if input.long {
-        return 0;
+        return no_list();
     }
     let from = input.from;
     let end = input.end;
-    request_lines::list_in(&block[from..end])
+    let ListRead::Shapes(list) = request_lines::list_in(&block[from..end]) else {
+        return no_list();
+    };
+    list
+}
+
+// The empty list. Says on standard error that the first line is none: it may have been forgotten.
+fn no_list() -> u16
+    ensures { λ r. ⌜ r ≡ 0 ⌝ }
+{
+    io::write_all(
+        2,
+        b"gad: the first line is no list of shapes, a number below 65536\n",
+    );
+    0
 }
 
 // The request in the line that is held.

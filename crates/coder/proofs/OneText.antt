@@ -21,6 +21,6 @@ line-answer-one : (n : ℕ) (line t u : List ℕ) → CoderAnswer n line t → C
 line-answer-one n line t u a b = a .is ∙ ap (lineText n) (prints-one (a .prints) (b .prints)) ∙ sym (b .is)
 
 pub codes-one : {start start′ block block′ out out′ : List ℕ} {r r′ : Run} (a : CodesAll start block out r) (b : CodesAll start′ block′ out′ r′)
-    → a .asked .read ≡ b .asked .read → length (a .asked .read) < mostOctets → r .output .sink .closed ≡ false → r′ .output .sink .closed ≡ false
+    → a .asked .read ≡ b .asked .read → length (a .asked .read) < mostOctets → r .output .sink .closed ≡ false → r′ .output .sink .closed ≡ false → r .input .source .failed ≡ false → r′ .input .source .failed ≡ false
     → a .put .written ≡ b .put .written
 codes-one = ran-one line-answer-one

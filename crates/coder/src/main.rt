@@ -36,28 +36,29 @@ fn run(out: &mut [u8; 65536], block: &mut [u8; 65536]) -> Run
     ensures { λ r. ⌜ CodesAll (now (block .entry)) (now (block .exit)) (now (out .exit)) r ⌝ }
 {
     let answered = answer_lines(out, block);
-    let input = answered.input;
-    let output = streaming::write_end(out, answered.output);
-    Run { input, output }
+    streaming::write_end(out, answered)
 }
 
-// Answers every line of the input. The end of the input ends it, and a closed output.
+// Answers every line of the input. The end of the input ends it, a closed output, and a read that fails.
 fn answer_lines(out: &mut [u8; 65536], block: &mut [u8; 65536]) -> Run
     ensures { λ r. ⌜ Stopped CoderAnswer [] (now (block .entry)) (now (block .exit)) (now (out .exit)) r ⌝ }
 {
-    let mut input = streaming::no_input();
-    let mut output = streaming::no_output();
-    while output.answered < MOST_LINES {
-        input = streaming::next_line(block, input);
+    let input = streaming::no_input();
+    let output = streaming::no_output();
+    let mut run = Run { input, output };
+    while run.output.answered < MOST_LINES {
+        let next = streaming::next_line(out, block, run);
+        let input = next.input;
         if !input.ready {
-            return Run { input, output };
+            return next;
         }
-        output = answer_line(out, block, input, output);
+        let output = answer_line(out, block, input, next.output);
+        run = Run { input, output };
         if streaming::is_closed(output.sink) {
-            return Run { input, output };
+            return run;
         }
     }
-    Run { input, output }
+    run
 }
 
 // Answers the line that is held.

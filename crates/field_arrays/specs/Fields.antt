@@ -126,34 +126,34 @@ pub data ReportsField (number : ℕ) (elements : List ℕ) (r : SaidQuantity) : 
 -- ---- WHAT IS PUT
 
 abbrev pub saidCodeOutcome : SaidCode → Outcome
-saidCodeOutcome (code.Refused why) = outcome.Refused why
 saidCodeOutcome (code.Natural n) = outcome.Done
-saidCodeOutcome (code.Signed s n) = outcome.Done
+saidCodeOutcome (code.Signed c) = outcome.Done
 saidCodeOutcome (code.Longitude c) = outcome.Done
+saidCodeOutcome (code.Refused why) = outcome.Refused why
 
 -- a code's elements
 abbrev pub saidCodeElements : SaidCode → List ℕ
-saidCodeElements (code.Refused why) = []
 saidCodeElements (code.Natural n) = n ∷ []
-saidCodeElements (code.Signed s n) = bitOf s ∷ n ∷ []
+saidCodeElements (code.Signed c) = bitOf (c .0) ∷ c .1 ∷ []
 saidCodeElements (code.Longitude c) = bitsOf (c .0) ∷ []
+saidCodeElements (code.Refused why) = []
 
 abbrev pub saidQuantityOutcome : SaidQuantity → Outcome
-saidQuantityOutcome (quantity.Refused why) = outcome.Refused why
-saidQuantityOutcome quantity.Missing = outcome.Done
 saidQuantityOutcome (quantity.Natural n) = outcome.Done
 saidQuantityOutcome (quantity.Coordinate x) = outcome.Done
 saidQuantityOutcome (quantity.Altitude a) = outcome.Done
 saidQuantityOutcome (quantity.VerticalSpeed v) = outcome.Done
+saidQuantityOutcome quantity.Missing = outcome.Done
+saidQuantityOutcome (quantity.Refused why) = outcome.Refused why
 
 -- a quantity's element
 abbrev pub saidQuantityElements : SaidQuantity → List ℤ
-saidQuantityElements (quantity.Refused why) = []
-saidQuantityElements quantity.Missing = missing ∷ []
 saidQuantityElements (quantity.Natural n) = pos n ∷ []
 saidQuantityElements (quantity.Coordinate x) = x .0 ∷ []
 saidQuantityElements (quantity.Altitude a) = a .0 ∷ []
 saidQuantityElements (quantity.VerticalSpeed v) = v .0 ∷ []
+saidQuantityElements quantity.Missing = missing ∷ []
+saidQuantityElements (quantity.Refused why) = []
 
 -- ---- the fields of a sort together
 

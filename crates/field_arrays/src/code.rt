@@ -92,10 +92,10 @@ pub fn put_code(out: &mut [u32], said: SaidCode) -> Whole
     ensures { λ r. ⌜ PutsElements (saidCodeOutcome said) (saidCodeElements said) (now (out .entry)) (now (out .exit)) (r .0) ⌝ }
 {
     match said {
-        SaidCode::Refused(why) => code_arrays::answer(Outcome::Refused(why), 0),
         SaidCode::Natural(n) => put_one(out, n),
-        SaidCode::Signed(sign, n) => put_two(out, code_arrays::bit(sign), n),
+        SaidCode::Signed(code) => put_two(out, code_arrays::bit(code.0), code.1),
         SaidCode::Longitude(code) => put_one(out, code_arrays::complement_of(code)),
+        SaidCode::Refused(why) => code_arrays::answer(Outcome::Refused(why), 0),
     }
 }
 

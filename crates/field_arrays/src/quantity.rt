@@ -82,12 +82,12 @@ pub fn put_quantity(out: &mut [i64], said: SaidQuantity) -> Whole
     ensures { λ r. ⌜ PutsElements (saidQuantityOutcome said) (saidQuantityElements said) (now (out .entry)) (now (out .exit)) (r .0) ⌝ }
 {
     match said {
-        SaidQuantity::Refused(why) => code_arrays::answer(Outcome::Refused(why), 0),
-        SaidQuantity::Missing => put_one(out, code_arrays::missing()),
         SaidQuantity::Natural(n) => put_one(out, code_arrays::wide(n)),
         SaidQuantity::Coordinate(x) => put_one(out, Whole(x.0)),
         SaidQuantity::Altitude(x) => put_one(out, code_arrays::wide_signed(Narrow(x.0))),
         SaidQuantity::VerticalSpeed(x) => put_one(out, code_arrays::wide_signed(Narrow(x.0))),
+        SaidQuantity::Missing => put_one(out, code_arrays::missing()),
+        SaidQuantity::Refused(why) => code_arrays::answer(Outcome::Refused(why), 0),
     }
 }
 

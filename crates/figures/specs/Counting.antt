@@ -12,3 +12,8 @@ pub record Room (n : ℕ) (t : Tally) : Type 0 where
 pub record After (n : ℕ) (before after : Tally) : Type 0 where
   pub figures : after .figures ≡ before .figures + n
   pub differences : after .differences ≤ after .figures
+
+-- something was printed: the figures are as they were
+pub record Printed (before after : Tally) : Type 0 where
+  pub figures : after .figures ≡ before .figures
+  pub differences : after .differences ≡ before .differences

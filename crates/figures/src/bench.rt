@@ -62,9 +62,9 @@ fn compare_empty(tally: Tally, name: &[u8], request: Request) -> Tally
     requires { ⌜ Room 1 tally ⌝ }
     ensures { λ r. ⌜ After 1 tally r ⌝ }
 {
-    io::write_all(1, b"empty-list ");
-    io::write_all(1, name);
-    output::compare(tally, answer(request, 0), 9)
+    let group = output::print(tally, b"empty-list ");
+    let named = output::print(group, name);
+    output::compare(named, answer(request, 0), 9)
 }
 
 // Altitude and circle with no altitude uncertainty: 9 under every list. The figure is the number of lists.
@@ -87,9 +87,9 @@ fn compare_lists(tally: Tally, name: &[u8], request: Request) -> Tally
     requires { ⌜ Room 1 tally ⌝ }
     ensures { λ r. ⌜ After 1 tally r ⌝ }
 {
-    io::write_all(1, b"every-list ");
-    io::write_all(1, name);
-    output::compare(tally, lists_without_message(request) as u64, LISTS as u64)
+    let group = output::print(tally, b"every-list ");
+    let named = output::print(group, name);
+    output::compare(named, lists_without_message(request) as u64, LISTS as u64)
 }
 
 // How many of all lists are answered 9.
@@ -131,12 +131,20 @@ fn compare_short(tally: Tally, name: &[u8], list: u16) -> Tally
     let circle = Horizontal::Circle(Millimetres(57274));
     let written = choice::choose(&mut out, plain(Altitude::NotAsked, circle), list);
     let outcome = written.outcome;
-    io::write_all(1, name);
-    let answered = output::compare(tally, answer_number(outcome), 10);
-    io::write_all(1, name);
-    output::print_octets(&out);
-    output::print_octets(&BUFFER);
-    output::end_line(answered, check::same(&out, &BUFFER))
+    let named = output::print(tally, name);
+    let answered = output::compare(named, answer_number(outcome), 10);
+    compare_buffer(answered, name, &out)
+}
+
+// What the buffer is, and what it was.
+fn compare_buffer(tally: Tally, name: &[u8], out: &[u8; 7]) -> Tally
+    requires { ⌜ Room 1 tally ⌝ }
+    ensures { λ r. ⌜ After 1 tally r ⌝ }
+{
+    let named = output::print(tally, name);
+    let found = output::print_octets(named, out);
+    let expected = output::print_octets(found, &BUFFER);
+    output::end_line(expected, check::same(out, &BUFFER))
 }
 
 // The answer's number where there is room for any message.

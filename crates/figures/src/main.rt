@@ -9,9 +9,11 @@ mod tally;
 use tally::Tally;
 
 fn main() {
+    let sink = streaming::unwritten();
     let start = Tally {
         figures: 0,
         differences: 0,
+        sink,
     };
     let empty = bench::empty_list(start);
     let every = bench::every_list(empty);

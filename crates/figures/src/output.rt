@@ -1,26 +1,53 @@
-// Parts of a line, written as they come.
+// Parts of a line, written as they come. Once a write failed, nothing more is written.
 use crate::tally;
 use crate::tally::Tally;
-ghost use Rattle.figures.specs.Counting.{Room, After};
+ghost use Rattle.figures.specs.Counting.{Room, After, Printed};
 
-// A space and a number.
-pub fn print_number(n: u64) {
-    io::write_all(1, b" ");
-    io::print_decimal(1, n);
-}
-
-// A space and the octets.
-pub fn print_octets(s: &[u8; 7]) {
-    io::write_all(1, b" ");
-    let mut i = 0;
-    while i < 7 {
-        io::print_hex(1, wide(s[i]), 2);
-        i += 1;
+// Writes the text, unless the output is closed.
+pub fn print(tally: Tally, text: &[u8]) -> Tally
+    ensures { λ r. ⌜ Printed tally r ⌝ }
+{
+    let before = tally.sink;
+    if streaming::is_closed(before) {
+        return tally;
+    }
+    let sink = streaming::write_text(text, before);
+    Tally {
+        figures: tally.figures,
+        differences: tally.differences,
+        sink,
     }
 }
 
-fn wide(octet: u8) -> u64 {
-    octet as u64
+// A space and a number.
+pub fn print_number(tally: Tally, n: u64) -> Tally
+    ensures { λ r. ⌜ Printed tally r ⌝ }
+{
+    let mut digits = [0; 20];
+    let count = io::decimal(n, &mut digits);
+    let spaced = print(tally, b" ");
+    print(spaced, &digits[..count])
+}
+
+// A space and the octets.
+pub fn print_octets(tally: Tally, s: &[u8; 7]) -> Tally
+    ensures { λ r. ⌜ Printed tally r ⌝ }
+{
+    let mut t = print(tally, b" ");
+    let mut i = 0;
+    while i < 7 {
+        t = print_octet(t, s[i]);
+        i += 1;
+    }
+    t
+}
+
+fn print_octet(tally: Tally, octet: u8) -> Tally
+    ensures { λ r. ⌜ Printed tally r ⌝ }
+{
+    let mut digits = [0; 16];
+    let count = io::hex(octet as u64, 2, &mut digits);
+    print(tally, &digits[..count])
 }
 
 // What was found and what it should be; the line ends as it compares.
@@ -28,9 +55,9 @@ pub fn compare(tally: Tally, found: u64, expected: u64) -> Tally
     requires { ⌜ Room 1 tally ⌝ }
     ensures { λ r. ⌜ After 1 tally r ⌝ }
 {
-    print_number(found);
-    print_number(expected);
-    end_line(tally, found == expected)
+    let first = print_number(tally, found);
+    let second = print_number(first, expected);
+    end_line(second, found == expected)
 }
 
 // Ends the line of a figure, and counts it.
@@ -38,18 +65,25 @@ pub fn end_line(tally: Tally, agrees: bool) -> Tally
     requires { ⌜ Room 1 tally ⌝ }
     ensures { λ r. ⌜ After 1 tally r ⌝ }
 {
+    let ended = print_verdict(tally, agrees);
+    tally::counted(ended, agrees)
+}
+
+fn print_verdict(tally: Tally, agrees: bool) -> Tally
+    ensures { λ r. ⌜ Printed tally r ⌝ }
+{
     if agrees {
-        io::write_all(1, b" ok\n");
-    } else {
-        io::write_all(1, b" DIFFERS\n");
+        return print(tally, b" ok\n");
     }
-    tally::counted(tally, agrees)
+    print(tally, b" DIFFERS\n")
 }
 
 // The last line.
-pub fn print_end(tally: Tally) {
-    io::write_all(1, b"end");
-    print_number(tally.figures);
-    print_number(tally.differences);
-    io::write_all(1, b"\n");
+pub fn print_end(tally: Tally) -> Tally
+    ensures { λ r. ⌜ Printed tally r ⌝ }
+{
+    let named = print(tally, b"end");
+    let first = print_number(named, tally.figures);
+    let second = print_number(first, tally.differences);
+    print(second, b"\n")
 }

@@ -5,7 +5,7 @@ use crate::tally::Tally;
 use ground::AltitudeUncertaintyCode;
 use ground::UncertaintyCode;
 use radii::RadiusReported;
-ghost use Rattle.figures.specs.Counting.{Room, After};
+ghost use Rattle.figures.specs.Counting.{Room, After, Printed};
 
 // The code K, the printed figure in millimetres, and half a unit of its last printed digit.
 struct Entry(u8, u32, u32);
@@ -65,21 +65,18 @@ fn compare_all(tally: Tally, table: Table, entries: [Entry; 10]) -> Tally
     let mut i: usize = 0;
     while i < 10 {
         let entry = entries[i];
-        print_name(table);
-        t = compare(t, entry, reported(table, entry.0));
+        t = compare(print_name(t, table), entry, reported(table, entry.0));
         i += 1;
     }
     t
 }
 
-fn print_name(table: Table) {
+fn print_name(tally: Tally, table: Table) -> Tally
+    ensures { λ r. ⌜ Printed tally r ⌝ }
+{
     match table {
-        Table::Uncertainty => {
-            io::write_all(1, b"uncertainty");
-        }
-        Table::AltitudeUncertainty => {
-            io::write_all(1, b"altitude-uncertainty");
-        }
+        Table::Uncertainty => output::print(tally, b"uncertainty"),
+        Table::AltitudeUncertainty => output::print(tally, b"altitude-uncertainty"),
     }
 }
 
@@ -97,24 +94,27 @@ fn compare(tally: Tally, entry: Entry, reported: RadiusReported) -> Tally
     requires { ⌜ Room 1 tally ⌝ }
     ensures { λ r. ⌜ After 1 tally r ⌝ }
 {
-    output::print_number(entry.0 as u64);
-    let agrees = print_reported(entry, reported);
-    output::print_number(entry.1 as u64);
-    output::print_number(entry.2 as u64);
-    output::end_line(tally, agrees)
+    let code = output::print_number(tally, entry.0 as u64);
+    let found = print_reported(code, reported);
+    let figure = output::print_number(found, entry.1 as u64);
+    let half = output::print_number(figure, entry.2 as u64);
+    output::end_line(half, agrees(entry, reported))
 }
 
-// Prints what is reported, `-` for a refusal, and answers whether it agrees with the entry.
-fn print_reported(entry: Entry, reported: RadiusReported) -> bool {
+// What is reported, `-` for a refusal.
+fn print_reported(tally: Tally, reported: RadiusReported) -> Tally
+    ensures { λ r. ⌜ Printed tally r ⌝ }
+{
     match reported {
-        RadiusReported::Radius(radius) => {
-            output::print_number(radius.0 as u64);
-            distance(radius.0, entry.1) <= entry.2
-        }
-        RadiusReported::Refused(why) => {
-            io::write_all(1, b" -");
-            false
-        }
+        RadiusReported::Radius(radius) => output::print_number(tally, radius.0 as u64),
+        RadiusReported::Refused(why) => output::print(tally, b" -"),
+    }
+}
+
+fn agrees(entry: Entry, reported: RadiusReported) -> bool {
+    match reported {
+        RadiusReported::Radius(radius) => distance(radius.0, entry.1) <= entry.2,
+        RadiusReported::Refused(why) => false,
     }
 }
 

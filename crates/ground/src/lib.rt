@@ -33,6 +33,7 @@ pub use refusals::Refusal;
 pub use refusals::refusal_number;
 pub use said::SaidCode;
 pub use said::SaidQuantity;
+pub use said::SignedCode;
 pub use signs::Parts;
 pub use signs::Whole;
 pub use signs::joined;

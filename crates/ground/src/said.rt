@@ -5,21 +5,24 @@ use crate::quantity::SignedMetresPerHour;
 use crate::quantity::SignedMillimetres;
 use crate::refusals::Refusal;
 
-// What a coder says: a code, or why there is none.
+// A code's sign and number.
+pub struct SignedCode(pub bool, pub u32);
+
+// What a coder says: a code, or why there is none. For speed it is longer than eight octets, by the struct in it, and a refusal is its
+// last case: otherwise the compiler packs it into one number, and tests its case a second time.
 pub enum SaidCode {
-    Refused(Refusal),
     Natural(u32),
-    // a sign and a number
-    Signed(bool, u32),
+    Signed(SignedCode),
     Longitude(LongitudeCode),
+    Refused(Refusal),
 }
 
 // What a reporter says: a quantity, that it is missing, or why there is none.
 pub enum SaidQuantity {
-    Refused(Refusal),
-    Missing,
     Natural(u32),
     Coordinate(Nanodegrees),
     Altitude(SignedMillimetres),
     VerticalSpeed(SignedMetresPerHour),
+    Missing,
+    Refused(Refusal),
 }

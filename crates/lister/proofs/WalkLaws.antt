@@ -69,30 +69,36 @@ module _ {buf x y : List ℕ} {h r : Held} (t : Turned buf x y h r) (input text 
       ∙ sym (append-assoc text (foundIn (length x) buf h .text) (rest (foundIn (length x) buf h) (octetsHeld buf h) later))
       ∙ rw (t .unbroken, t .held)
 
+-- a step that reads, also where the read failed
+read-lists : {buf after : List ℕ} {h r : Held} → h .source .over ≡ false → HeldRefilled buf after h r → (input text later : List ℕ)
+    → (let piece : List ℕ = drop (h .source .fill - h .at) (octetsHeld after r) in listing (input ++ (piece ++ later)) ≡ text ++ listFrom (h .unbroken) (octetsHeld buf h ++ (piece ++ later)))
+    → listing ((input ++ drop (h .source .fill - h .at) (octetsHeld after r)) ++ later) ≡ text ++ listFrom (r .unbroken) (octetsHeld after r ++ later)
+read-lists {buf} {after} {h} {r} may f input text later before =
+    let piece : List ℕ = drop (h .source .fill - h .at) (octetsHeld after r) in
+    rw append-assoc before
+    ∙ ap (λ (s : List ℕ). text ++ listFrom (h .unbroken) s) (sym (append-assoc (octetsHeld buf h) piece later) ∙ ap (λ (s : List ℕ). s ++ later) (sym (parts f)))
+    ∙ ap (λ (n : ℕ). text ++ listFrom n (octetsHeld after r ++ later)) (sym (f .unbroken))
+
 -- A WALK THAT GOES ON: the listing of all octets that were read and of whatever comes later is the text that was put out and the listing of what is left
 pub walk-lists : {buf input text : List ℕ} {h : Held} → Walk buf h input text → h .ended ≡ false → (later : List ℕ) → (h .source .over ≡ true → later ≡ [])
     → listing (input ++ later) ≡ text ++ listFrom (h .unbroken) (octetsHeld buf h ++ later)
 walk-lists (start buf) on later all = listing-from later
 walk-lists {buf = buf} {input = input} {h = r} (lists {x = x} {text = text} {h = h} w go t) on later all =
     listed t input text later (rw (t .same-source) at all) (walk-lists w go later (rw (t .same-source) at all)) ∙ rw (not-ended t on)
-walk-lists {buf = after} {text = text} {h = r} (reads {buf = buf} {input = input} {h = h} w go may f) on later all =
-    let piece : List ℕ = drop (h .source .fill - h .at) (octetsHeld after r) in
-    rw append-assoc (walk-lists w go (piece ++ later) (λ e. never e may))
-    ∙ ap (λ (s : List ℕ). text ++ listFrom (h .unbroken) s) (sym (append-assoc (octetsHeld buf h) piece later) ∙ ap (λ (s : List ℕ). s ++ later) (sym (parts f)))
-    ∙ ap (λ (n : ℕ). text ++ listFrom n (octetsHeld after r ++ later)) (sym (f .unbroken))
+walk-lists (reads {buf = buf} {input = input} {text = text} {h = h} w go may f) on later all = read-lists may f input text later (walk-lists w go _ (λ e. never e may))
 
 is-over : (ended closed over : Bool) → over ≡ (ended || closed) → over ≡ true → closed ≡ false → ended ≡ true
 is-over true closed over o e c = refl
 is-over false closed over o e c = absurd (subst T (sym (sym o ∙ e) ∙ c) tt)
 
--- A WALK THAT HAS ENDED, with an output that took all: the text is the listing of all octets that were read, and of the whole input, where some of it was not read
-pub walk-ends : {buf input text : List ℕ} {h : Held} → Walk buf h input text → h .ended ≡ true → h .sink .closed ≡ false → (later : List ℕ) → (h .source .over ≡ true → later ≡ [])
+-- A WALK THAT HAS ENDED, with an output that took all and no read that failed: the text is the listing of all octets that were read, and of the whole input, where some of it was not read
+pub walk-ends : {buf input text : List ℕ} {h : Held} → Walk buf h input text → h .ended ≡ true → h .sink .closed ≡ false → h .source .failed ≡ false → (later : List ℕ) → (h .source .over ≡ true → later ≡ [])
     → text ≡ listing (input ++ later)
-walk-ends (start buf) e w later all = never e refl
-walk-ends {buf = buf} {input = input} {h = r} (lists {x = x} {text = text} {h = h} walk go t) e w later all =
+walk-ends (start buf) e w ok later all = never e refl
+walk-ends {buf = buf} {input = input} {h = r} (lists {x = x} {text = text} {h = h} walk go t) e w ok later all =
     let over : foundIn (length x) buf h .ended ≡ true = is-over (foundIn (length x) buf h .ended) (r .sink .closed) (r .ended) (t .ended) e w in
     sym (listed t input text later (rw (t .same-source) at all) (walk-lists walk go later (rw (t .same-source) at all)) ∙ rw (over, append-nil))
-walk-ends (reads walk go may f) e w later all = never e (f .goes-on)
+walk-ends (reads walk go may f) e w ok later all = never e (f .ended ∙ ok)
 
 -- ANY WALK, also one whose output was closed: what was put out is a beginning of the listing
 pub record Begins (text whole : List ℕ) : Type 0 where
@@ -103,7 +109,7 @@ pub walk-begins : {buf input text : List ℕ} {h : Held} → Walk buf h input te
 walk-begins (start buf) later all = record { rest = listing later; parts = refl }
 walk-begins {buf = buf} {input = input} {h = r} (lists {x = x} {text = text} {h = h} walk go t) later all =
     record { rest = _; parts = listed t input text later (rw (t .same-source) at all) (walk-lists walk go later (rw (t .same-source) at all)) }
-walk-begins (reads walk go may f) later all = record { rest = _; parts = walk-lists (reads walk go may f) (f .goes-on) later all }
+walk-begins (reads {input = input} {text = text} walk go may f) later all = record { rest = _; parts = read-lists may f input text later (walk-lists walk go _ (λ e. never e may)) }
 
 -- no more frames are counted than octets are read
 pub few-frames : {buf input text : List ℕ} {h : Held} → Walk buf h input text → h .unbroken + length (octetsHeld buf h) ≤ length input
@@ -153,7 +159,7 @@ module _ {buf : List ℕ} {r : Held} (ran : Ran buf r) where
   abbrev putOut : List ℕ
   putOut = ran .walked .text
 
-  -- IT ENDS: a run stops at the end of its input, at a broken frame, or where its output is closed; or it has read 2^62 octets
+  -- IT ENDS: a run stops at the end of its input, at a broken frame, where its output is closed or where a read failed; or it has read 2^62 octets
   pub lister-ends : length readAll < mostFrames → r .ended ≡ true
   lister-ends few = by (r .ended) refl
     where
@@ -161,16 +167,16 @@ module _ {buf : List ℕ} {r : Held} (ran : Ran buf r) where
       by true e = e
       by false e = absurd (omega (arith, few, few-frames (ran .walked .walk), ran .stopped e))
 
-  -- IT LISTS: what it has put out is the listing of all octets that it read; where it left some unread, of those too
-  pub lister-lists-all : length readAll < mostFrames → r .sink .closed ≡ false → (later : List ℕ) → (r .source .over ≡ true → later ≡ []) → putOut ≡ listing (readAll ++ later)
-  lister-lists-all few done later all = walk-ends (ran .walked .walk) (lister-ends few) done later all
+  -- IT LISTS, unless a read failed: what it has put out is the listing of all octets that it read; where it left some unread, of those too
+  pub lister-lists-all : length readAll < mostFrames → r .sink .closed ≡ false → r .source .failed ≡ false → (later : List ℕ) → (r .source .over ≡ true → later ≡ []) → putOut ≡ listing (readAll ++ later)
+  lister-lists-all few done ok later all = walk-ends (ran .walked .walk) (lister-ends few) done ok later all
 
-  pub lister-lists : length readAll < mostFrames → r .sink .closed ≡ false → putOut ≡ listing readAll
-  lister-lists few done = lister-lists-all few done [] (λ _. refl) ∙ ap listing (append-nil readAll)
+  pub lister-lists : length readAll < mostFrames → r .sink .closed ≡ false → r .source .failed ≡ false → putOut ≡ listing readAll
+  lister-lists few done ok = lister-lists-all few done ok [] (λ _. refl) ∙ ap listing (append-nil readAll)
 
   -- with the line of each unbroken frame, and their number behind `end`
-  pub lister-lines : length readAll < mostFrames → r .sink .closed ≡ false → (p : Parsed readAll) → putOut ≡ messageLines 0 (p .messages) ++ closing (p .cut) (length (p .messages))
-  lister-lines few done p = lister-lists few done ∙ listing-lines (p .input)
+  pub lister-lines : length readAll < mostFrames → r .sink .closed ≡ false → r .source .failed ≡ false → (p : Parsed readAll) → putOut ≡ messageLines 0 (p .messages) ++ closing (p .cut) (length (p .messages))
+  lister-lines few done ok p = lister-lists few done ok ∙ listing-lines (p .input)
 
   -- IT WRITES ALL OF THAT
   pub lister-writes : r .sink .closed ≡ false → r .sink .written ≡ length putOut % 2 ^ 64
@@ -180,6 +186,6 @@ module _ {buf : List ℕ} {r : Held} (ran : Ran buf r) where
   pub counts-read : length buf ≡ 0 → r .unbroken ≡ 0
   counts-read none = omega (arith, few-frames (ran .walked .walk), no-room (ran .walked .walk) none)
 
-  -- A CLOSED OUTPUT: a beginning of the listing
+  -- A CLOSED OUTPUT, A READ THAT FAILED: a beginning of the listing
   pub lister-begins : Begins putOut (listing readAll)
   lister-begins = subst (λ (s : List ℕ). Begins putOut (listing s)) (append-nil readAll) (walk-begins (ran .walked .walk) [] (λ _. refl))

@@ -34,14 +34,14 @@ pub record Turned (buf x y : List ℕ) (h r : Held) : Type 0 where
   pub few : r .unbroken ≤ h .unbroken + foundIn (length x) buf h .taken
   pub content : y ≡ sets x 0 (foundIn (length x) buf h .text)
 
--- what was read stands behind what was held
+-- what was read stands behind what was held; a read that failed ends the run
 pub record HeldRefilled (before after : List ℕ) (h r : Held) : Type 0 where
   pub sound : Sound after r
   pub read : ReadMore before after (h .at) (h .source) (r .source)
   pub start : r .at ≡ 0
   pub unbroken : r .unbroken ≡ h .unbroken
   pub same-sink : r .sink ≡ h .sink
-  pub goes-on : r .ended ≡ false
+  pub ended : r .ended ≡ r .source .failed
 
 -- no log has so many frames
 abbrev pub mostFrames : ℕ

@@ -22,7 +22,7 @@ struct Held {
     unbroken: u64,
     // what was written
     sink: Sink,
-    // the last line is put, or the output is closed
+    // the last line is put, the output is closed, or a read failed
     ended: bool,
 }
 
@@ -32,7 +32,7 @@ fn main() {
     run(&mut out, &mut buf);
 }
 
-// A broken frame ends the run, the end of the input, and a closed output. Answers what is held then.
+// A broken frame ends the run, the end of the input, a closed output, and a read that fails. Answers what is held then.
 fn run(out: &mut [u8], buf: &mut [u8]) -> Held
     requires { ⌜ longestStep ≤ length (now out) ⌝ }
     ensures { λ r. ⌜ Ran (now (buf .exit)) r ⌝ }
@@ -117,7 +117,7 @@ fn over(ended: bool, closed: bool) -> bool
     closed
 }
 
-// Reads once, behind what is held. A read that fails ends the input.
+// Reads once, behind what is held. A read that fails ends the run.
 fn refill(buf: &mut [u8], held: Held) -> Held
     requires { ⌜ Sound (now buf) held ⌝ }
     ensures { λ r. ⌜ HeldRefilled (now (buf .entry)) (now (buf .exit)) held r ⌝ }
@@ -125,11 +125,12 @@ fn refill(buf: &mut [u8], held: Held) -> Held
     let before = held.source;
     let sink = held.sink;
     let more = streaming::read_more(buf, held.at, before);
+    let ended = streaming::is_failed(more);
     Held {
         at: 0,
         source: more,
         unbroken: held.unbroken,
         sink,
-        ended: false,
+        ended,
     }
 }

@@ -6,7 +6,7 @@ use Rattle.ground.specs.declared.quantity.Nanodegrees.{Nanodegrees}
 use Rattle.ground.specs.declared.quantity.UncertaintySpeed.the-variants as uncertain
 use Rattle.ground.specs.declared.quantity.Confidence.the-variants as confident
 use Rattle.ground.specs.declared.said.SaidCode.{SaidCode}
-use Rattle.ground.specs.declared.said.SaidCode.the-variants.{Refused, Natural, Signed, Longitude}
+use Rattle.ground.specs.declared.said.SaidCode.the-variants.{Natural, Signed, Longitude, Refused}
 use Rattle.one_field.specs.declared.coding.Coordinate.{Coordinate}
 use Rattle.one_field.specs.declared.coding.Coordinate.the-variants as coordinate
 use Rattle.one_field.specs.declared.coding.Unsigned.{Unsigned}
@@ -18,18 +18,18 @@ use Rattle.fields.specs.Fields as field
 
 -- a code in plain numbers: a sign and a number, or one number
 abbrev pub saidCodeNumbers : (f : Field) → CodeOf f → SaidCode
-saidCodeNumbers field.latitude c = Signed (c .0) (c .1)
+saidCodeNumbers field.latitude c = Signed (record { 0 = c .0; 1 = c .1 })
 saidCodeNumbers field.longitude c = Longitude c
 saidCodeNumbers field.uncertainty c = Natural (c .0)
 saidCodeNumbers field.altitudeUncertainty c = Natural (c .0)
-saidCodeNumbers field.altitude c = Signed (c .0) (c .1)
+saidCodeNumbers field.altitude c = Signed (record { 0 = c .0; 1 = c .1 })
 saidCodeNumbers field.innerRadius c = Natural (c .0)
 saidCodeNumbers field.offset c = Natural (c .0)
 saidCodeNumbers field.included c = Natural (c .0)
 saidCodeNumbers field.orientation c = Natural (c .0)
 saidCodeNumbers field.bearing c = Natural (c .0)
 saidCodeNumbers field.horizontalSpeed c = Natural (c .0)
-saidCodeNumbers field.verticalSpeed c = Signed (c .0) (c .1)
+saidCodeNumbers field.verticalSpeed c = Signed (record { 0 = c .0; 1 = c .1 })
 saidCodeNumbers field.uncertaintySpeed c = Natural (c .0)
 saidCodeNumbers field.confidence c = Natural (c .0)
 

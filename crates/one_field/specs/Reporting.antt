@@ -11,7 +11,7 @@ use Rattle.ground.specs.declared.quantity.UncertaintySpeed.the-variants as unce
 use Rattle.ground.specs.declared.quantity.Confidence.{Confidence}
 use Rattle.ground.specs.declared.quantity.Confidence.the-variants as confident
 use Rattle.ground.specs.declared.said.SaidQuantity.{SaidQuantity}
-use Rattle.ground.specs.declared.said.SaidQuantity.the-variants.{Refused, Missing, Natural, Coordinate, Altitude, VerticalSpeed}
+use Rattle.ground.specs.declared.said.SaidQuantity.the-variants.{Natural, Coordinate, Altitude, VerticalSpeed, Missing, Refused}
 use Rattle.one_field.specs.declared.reporting.Byte.{Byte}
 use Rattle.one_field.specs.declared.reporting.Byte.the-variants as byte
 use Rattle.one_field.specs.declared.reporting.Word.{Word}

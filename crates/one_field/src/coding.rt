@@ -7,6 +7,7 @@ use ground::Millidegrees;
 use ground::Millimetres;
 use ground::Nanodegrees;
 use ground::SaidCode;
+use ground::SignedCode;
 use ground::SignedMetresPerHour;
 use ground::SignedMillimetres;
 use ground::UncertaintySpeed;
@@ -89,12 +90,12 @@ pub fn coded_altitude(x: SignedMillimetres) -> SaidCode
     ensures { λ r. ⌜ TellsCode altitude x r ⌝ }
 {
     let altitude = lengths::altitude_code(x);
-    SaidCode::Signed(altitude.0, altitude.1 as u32)
+    SaidCode::Signed(SignedCode(altitude.0, altitude.1 as u32))
 }
 
 pub fn coded_vertical_speed(x: SignedMetresPerHour) -> SaidCode
     ensures { λ r. ⌜ TellsCode verticalSpeed x r ⌝ }
 {
     let speed = speeds::vertical_speed_code(x);
-    SaidCode::Signed(speed.0, speed.1 as u32)
+    SaidCode::Signed(SignedCode(speed.0, speed.1 as u32))
 }

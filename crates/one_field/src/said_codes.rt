@@ -9,6 +9,7 @@ use coordinates::LongitudeCoded;
 use ground::HorizontalSpeedCode;
 use ground::InnerRadiusCode;
 use ground::SaidCode;
+use ground::SignedCode;
 use radii::AltitudeUncertaintyCoded;
 use radii::UncertaintyCoded;
 use speeds::UncertaintySpeedCoded;
@@ -20,7 +21,7 @@ pub fn latitude(coded: LatitudeCoded) -> SaidCode
     ensures { λ r. ⌜ r ≡ saidByCoder latitude coded ⌝ }
 {
     match coded {
-        LatitudeCoded::Code(c) => SaidCode::Signed(c.0, c.1),
+        LatitudeCoded::Code(c) => SaidCode::Signed(SignedCode(c.0, c.1)),
         LatitudeCoded::Refused(why) => SaidCode::Refused(why),
     }
 }

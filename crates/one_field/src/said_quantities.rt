@@ -18,7 +18,7 @@ ghost use Rattle.lengths.specs.Lengths.{saidAltitude};
 ghost use Rattle.angles.specs.Angles.{saidAngle};
 ghost use Rattle.confidences.specs.Confidences.{saidConfidence};
 ghost use Rattle.one_field.specs.Reporting.{saidLengthNumber, saidAngleNumber, saidUncertaintySpeedNumber, saidConfidenceNumber};
-ghost use Rattle.ground.specs.declared.said.SaidQuantity.the-variants.{Refused, Natural, Coordinate, Altitude, VerticalSpeed};
+ghost use Rattle.ground.specs.declared.said.SaidQuantity.the-variants.{Natural, Coordinate, Altitude, VerticalSpeed, Refused};
 
 pub fn coordinate(reported: CoordinateReported) -> SaidQuantity
     ensures { λ r. ⌜ r ≡ tells Coordinate Refused (saidCoordinate reported) ⌝ }

@@ -23,9 +23,11 @@ use Rattle.requests.specs.declared.AltitudeUncertainty.{AltitudeUncertainty}
 use Rattle.requests.specs.declared.AltitudeUncertainty.the-variants as height
 use Rattle.request_lines.specs.declared.amounts.Amount.{Amount}
 use Rattle.request_lines.specs.declared.amounts.Amount.the-variants.{Unreadable}
+use Rattle.request_lines.specs.declared.ListRead.{ListRead}
+use Rattle.request_lines.specs.declared.ListRead.the-variants.{Shapes, NoList}
 use Rattle.request_lines.specs.declared.request.Asked.{Asked}
 use Rattle.request_lines.specs.declared.request.Asked.the-variants as asked
-use Rattle.request_lines.specs.Asking.{SaysAltitude, SaysHorizontal, SaysUncertainty, Says, Asks, SaysList, ListIn}
+use Rattle.request_lines.specs.Asking.{ReadsList, SaysAltitude, SaysHorizontal, SaysUncertainty, Says, Asks, SaysList, ListIn}
 use Rattle.request_lines.specs.Reading.{ReadsAmount, ReadsHorizontal, horizontalOf}
 use Rattle.request_lines.proofs.AmountLaws as amounts
 
@@ -48,27 +50,19 @@ no-confidence = amounts.no-confidence IsAbsent SaysUnsigned
 
 -- ---- the list
 
-module _ {line : List ℕ} {x : ℕ} (m : Means (numeralOf line) (pos x)) where
-  pub list-written : x < 2 ^ 16 → ListIn line x
-  list-written h =
-      record {
-        written = λ y s. ap mag (means-one m (s .means));
-        empty = λ none. absurd (none x (record { means = m; fits = h }));
-      }
+-- a number that is too large is none, and so is what is no number
+pub list-too-large : {line : List ℕ} {x : ℕ} → Means (numeralOf line) (pos x) → 2 ^ 16 ≤ x → (list : ℕ) → SaysList line list → ⊥
+list-too-large {x = x} m h y s = let e : x ≡ y = ap mag (means-one m (s .means)) in absurd (omega (arith, s .fits))
 
-  pub list-too-large : 2 ^ 16 ≤ x → ListIn line 0
-  list-too-large h =
-      record {
-        written = λ y s. let e : x ≡ y = ap mag (means-one m (s .means)) in absurd (omega (arith, s .fits));
-        empty = λ none. refl;
-      }
+pub list-none : {line : List ℕ} → ((x : ℕ) → Means (numeralOf line) (pos x) → x < 2 ^ 32 → ⊥) → (list : ℕ) → SaysList line list → ⊥
+list-none n y s = n y (s .means) (omega (arith, s .fits))
 
-pub list-none : {line : List ℕ} → ((x : ℕ) → Means (numeralOf line) (pos x) → x < 2 ^ 32 → ⊥) → ListIn line 0
-list-none n =
-    record {
-      written = λ y s. absurd (n y (s .means) (omega (arith, s .fits)));
-      empty = λ none. refl;
-    }
+-- what is read is the list, or the empty one
+pub list-read : {line : List ℕ} {list : ℕ} → SaysList line list → ListIn line list
+list-read {list = x} m = record { written = λ y s. ap mag (means-one (m .means) (s .means)); empty = λ none. absurd (none x m) }
+
+pub list-empty : {line : List ℕ} → ((list : ℕ) → SaysList line list → ⊥) → ListIn line 0
+list-empty n = record { written = λ y s. absurd (n y s); empty = λ none. refl }
 
 -- ---- one answer
 
@@ -81,6 +75,12 @@ list-by {line} {x} {y} false e a b =
 -- were there two lists, the line would write neither, and both would be empty
 pub list-one : {line : List ℕ} {x y : ℕ} → ListIn line x → ListIn line y → x ≡ y
 list-one {x = x} {y} a b = list-by (eqb x y) refl a b
+
+pub reads-list-one : (line : List ℕ) (a b : ListRead) → ReadsList line a → ReadsList line b → a ≡ b
+reads-list-one line (Shapes x) (Shapes y) s t = ap Shapes (ap mag (means-one (s .means) (t .means)))
+reads-list-one line (Shapes x) NoList s t = absurd (t x s)
+reads-list-one line NoList (Shapes y) s t = absurd (s y t)
+reads-list-one line NoList NoList s t = refl
 
 altitude-one : (f : List ℕ) (a b : Altitude) → SaysAltitude f a → SaysAltitude f b → a ≡ b
 altitude-one f (level.Asked a) (level.Asked b) s t = ap (λ (z : ℤ). level.Asked (record { 0 = z })) (signed-one s t)

@@ -14,6 +14,8 @@ use Rattle.requests.specs.declared.Horizontal.{Horizontal}
 use Rattle.requests.specs.declared.Horizontal.the-variants as horizontal
 use Rattle.requests.specs.declared.AltitudeUncertainty.{AltitudeUncertainty}
 use Rattle.requests.specs.declared.AltitudeUncertainty.the-variants as height
+use Rattle.request_lines.specs.declared.ListRead.{ListRead}
+use Rattle.request_lines.specs.declared.ListRead.the-variants.{Shapes, NoList}
 use Rattle.request_lines.specs.declared.request.Asked.{Asked}
 use Rattle.request_lines.specs.declared.request.Asked.the-variants as asked
 
@@ -54,6 +56,11 @@ Asks line asked.Unreadable = (q : Request) → Says line q → ⊥
 pub record SaysList (line : List ℕ) (list : ℕ) : Type 0 where
   pub means : Means (numeralOf line) (pos list)
   pub fits : list < 2 ^ 16
+
+-- that list, or that it writes none
+abbrev pub ReadsList : List ℕ → ListRead → Type 0
+ReadsList line (Shapes list) = SaysList line list
+ReadsList line NoList = (list : ℕ) → SaysList line list → ⊥
 
 -- that list, and the empty one where it writes none
 pub record ListIn (line : List ℕ) (r : ℕ) : Type 0 where

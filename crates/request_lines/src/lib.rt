@@ -12,20 +12,23 @@ pub use request::HorizontalRead;
 pub use request::horizontal_of;
 pub use request::request_in;
 use text::Unsigned32;
-ghost use Rattle.request_lines.specs.Asking.{ListIn};
+ghost use Rattle.request_lines.specs.Asking.{ReadsList};
 
-// The empty list.
-const NO_SHAPES: u16 = 0;
+// What a line that should be the receiver's list writes.
+pub enum ListRead {
+    Shapes(u16),
+    NoList,
+}
 
-// The receiver's list that the line writes. What 16 bits can't hold is the empty list.
-pub fn list_in(line: &[u8]) -> u16
-    ensures { λ r. ⌜ ListIn (now (line .entry)) r ⌝ }
+// The receiver's list that the line writes: a number that 16 bits can hold.
+pub fn list_in(line: &[u8]) -> ListRead
+    ensures { λ r. ⌜ ReadsList (now (line .entry)) r ⌝ }
 {
     let Unsigned32::Number(list) = text::unsigned_32(text::number_in(line)) else {
-        return NO_SHAPES;
+        return ListRead::NoList;
     };
     if 65535 < list {
-        return NO_SHAPES;
+        return ListRead::NoList;
     }
-    list as u16
+    ListRead::Shapes(list as u16)
 }

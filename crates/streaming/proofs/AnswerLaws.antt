@@ -15,11 +15,12 @@ use Rattle.streaming.specs.Sources.{octetsFrom, Goes, here}
 use Rattle.streaming.specs.Lines.{linesOf}
 use Rattle.streaming.specs.Inputs.{noInput, SoundInput, Mark, newline, LineTaken, NoLine, nothing, mostOctets}
 use Rattle.streaming.specs.Inputs as inputs
-use Rattle.streaming.specs.Outputs.{noOutput, SoundOutput, WritesEnd}
-use Rattle.streaming.specs.Answering.{LinesRead, Taken, Stops, closed, over, many, Answers, none, more, AnswerPut, Answering, Stopped, Ran}
+use Rattle.streaming.specs.Outputs.{noOutput, SoundOutput, PutOut, Kept, NoneOfRun, NextOfRun, WritesEnd}
+use Rattle.streaming.specs.Outputs as outputs
+use Rattle.streaming.specs.Answering.{LinesRead, Taken, Stops, closed, over, many, failed, Answers, none, more, AnswerPut, Answering, Stopped, Ran}
 use Rattle.streaming.proofs.SourceLaws.{goes-parts, goes-over, goes-then}
 use Rattle.streaming.proofs.LineLaws.{line-first, line-last, no-lines, few-lines}
-use Rattle.streaming.proofs.OutputLaws.{put-nothing}
+use Rattle.streaming.proofs.OutputLaws.{put-nothing, put-kept}
 
 -- ---- the lines
 
@@ -88,6 +89,15 @@ module _ {start block : List ℕ} {i : Input} (l : LinesRead start block i) (who
     same = refl;
     stops = many (omega (arith, most, length-append (l .read) read));
   }
+  no-line o (inputs.failed {read} {taken} g e) = record {
+    asked = record { read = l .read ++ read; taken = l .taken ++ taken; lines = l .lines; dropped = taken; goes = goes-then (l .goes) g; parts = on g };
+    same = refl;
+    stops = failed e;
+  }
+
+-- nothing is taken since
+lines-as : {start block after : List ℕ} {i j : Input} → LinesRead start block i → after ≡ block → j .source ≡ i .source → j .taken ≡ i .taken → LinesRead start after j
+lines-as {start} {block} {after} {i} {j} l e s t = record { read = l .read; taken = l .taken; lines = l .lines; dropped = l .dropped; goes = rw (e, s, t) (l .goes); parts = rw (e, s, t) (l .parts) }
 
 -- the first line is taken
 pub line-taken : {start block after : List ℕ} {i j : Input} → Taken [] start block i → (t : LineTaken block after i j) → Taken (t .line ∷ []) start after j
@@ -107,8 +117,19 @@ few-taken {start} {block} {i} l =
 
 -- ---- the answers
 
-pub empty-output : {o : Output} → o ≡ noOutput → SoundOutput o × (o .sink .closed ≡ false)
-empty-output e = subst (λ (o : Output). SoundOutput o × (o .sink .closed ≡ false)) (sym e) (record { answers = omega arith }, refl)
+-- nothing is put, answered or written
+pub record Empty (out : List ℕ) (o : Output) : Type 0 where
+  pub sound : SoundOutput o
+  pub is-open : o .sink .closed ≡ false
+  pub none : o .answered ≡ 0
+  pub put : PutOut [] out o
+
+pub empty-output : {o : Output} (out : List ℕ) → o ≡ noOutput → Empty out o
+empty-output out e = subst (Empty out) (sym e) (record { sound = record { answers = omega arith }; is-open = refl; none = refl; put = put-nothing out })
+
+-- it may be written, which changes nothing
+pub still-empty : {out : List ℕ} {o r : Output} → Empty out o → Kept out o r → r .answered ≡ o .answered → SoundOutput r → r .sink .closed ≡ false → Empty out r
+still-empty e kept count sound is-on = record { sound = sound; is-open = is-on; none = count ∙ e .none; put = put-kept (e .is-open) (e .put) kept }
 
 -- a run that goes on
 pub record GoesOn (Answer : ℕ → List ℕ → List ℕ → Type 0) (first : List (List ℕ)) (start block out : List ℕ) (i : Input) (o : Output) : Type 0 where
@@ -126,13 +147,11 @@ module _ {Answer : ℕ → List ℕ → List ℕ → Type 0} where
       subst (λ (v : List ℕ). Answers Answer n (l ∷ (lines ++ line ∷ [])) v) (sym (append-assoc u text t)) (more b (answers-more rest (rw e at a)))
 
   -- nothing is answered after the first lines
-  pub begun : {first : List (List ℕ)} {start block : List ℕ} {i : Input} {o : Output} (out : List ℕ) → Taken first start block i → o ≡ noOutput → GoesOn Answer first start block out i o
-  begun {first} {start} {block} {i} {o} out t e =
-      subst (λ (o : Output). GoesOn Answer first start block out i o) (sym e)
-      (record {
-        at = record { asked = t .asked; lines = []; text = []; these = t .these ∙ sym (append-nil first); answers = none; count = refl; put = put-nothing out };
-        whole = t .whole;
-      })
+  pub begun : {first : List (List ℕ)} {start block out : List ℕ} {i : Input} {o : Output} → Taken first start block i → Empty out o → GoesOn Answer first start block out i o
+  begun {first} t e = record {
+    at = record { asked = t .asked; lines = []; text = []; these = t .these ∙ sym (append-nil first); answers = none; count = e .none; put = e .put };
+    whole = t .whole;
+  }
 
   module _ {first : List (List ℕ)} {start block out : List ℕ} {i : Input} {o : Output} (g : GoesOn Answer first start block out i o) where
     -- an answer more
@@ -149,6 +168,13 @@ module _ {Answer : ℕ → List ℕ → List ℕ → Type 0} where
         put = a .put (g .at .text) (g .at .put);
       };
       whole = refl;
+    }
+
+    -- the answers are as they were, or they are written
+    pub goes-kept : {r : Output} → o .sink .closed ≡ false → r .answered ≡ o .answered → Kept out o r → GoesOn Answer first start block out i r
+    goes-kept {r} is-on count kept = record {
+      at = record { asked = g .at .asked; lines = g .at .lines; text = g .at .text; these = g .at .these; answers = g .at .answers; count = count ∙ g .at .count; put = put-kept is-on (g .at .put) kept };
+      whole = g .whole;
     }
 
     -- no line is left
@@ -173,25 +199,44 @@ module _ {Answer : ℕ → List ℕ → List ℕ → Type 0} where
       sound = sound;
     }
 
-  -- the last line
-  pub ran : {first : List (List ℕ)} {start block out out′ : List ℕ} {s : Run} {o : Output} → Stopped Answer first start block out s → WritesEnd out out′ (s .output) o
-      → Ran Answer first start block out′ (record { input = s .input; output = o })
-  ran {out′ = out′} {s = s} {o = o} a w = record {
-    asked = a .at .asked;
-    lines = a .at .lines;
-    text = a .at .text;
-    these = a .at .these;
-    answers = a .at .answers;
-    count = w .same-count ∙ a .at .count;
-    stops = by (a .stops);
-    put = rw (a .at .count) at (w .text (a .at .text) (a .at .put));
-    all = w .none-left;
-  }
+  -- a run without a next line
+  pub none-of-run : {first : List (List ℕ)} {start block after out : List ℕ} {s r : Run} → GoesOn Answer first start block out (s .input) (s .output) → s .output .sink .closed ≡ false
+      → NextOfRun block after out s r → r .input .ready ≡ false → Stopped Answer first start after out r
+  unfolding lines-as
+  none-of-run {first} {start} {block} {after} {out} {s} {r} g is-on n e = by (n .none e)
     where
-      by : Stops (a .at .asked) (s .output) → Stops (a .at .asked) o
+      kept : GoesOn Answer first start block out (s .input) (r .output)
+      kept = goes-kept g is-on (n .same-count) (n .kept)
+
+      by : NoneOfRun block after (s .input) r → Stopped Answer first start after out r
+      by (outputs.none l) = none-left kept (n .sound-output) l
+      by (outputs.shut c b x y) = record {
+        at = record { asked = lines-as (kept .at .asked) b x y; lines = kept .at .lines; text = kept .at .text; these = kept .at .these; answers = kept .at .answers; count = kept .at .count; put = kept .at .put };
+        stops = closed c;
+        sound = n .sound-output;
+      }
+
+  -- the last line
+  pub ran : {first : List (List ℕ)} {start block out out′ : List ℕ} {s r : Run} → Stopped Answer first start block out s → WritesEnd out out′ s r → Ran Answer first start block out′ r
+  ran {first} {start} {block} {out} {out′} {s} {r} a w =
+      subst (λ (i : Input). Ran Answer first start block out′ (record { input = i; output = r .output })) (sym (w .same-input))
+      (record {
+        asked = a .at .asked;
+        lines = a .at .lines;
+        text = a .at .text;
+        these = a .at .these;
+        answers = a .at .answers;
+        count = w .same-count ∙ a .at .count;
+        stops = by (a .stops);
+        put = rw (a .at .count) at (w .text (a .at .text) (a .at .put));
+        all = w .none-left;
+      })
+    where
+      by : Stops (a .at .asked) (s .output) → Stops (a .at .asked) (r .output)
       by (closed e) = closed (w .stays-closed e)
       by (over e f d) = over e f d
       by (many h) = many h
+      by (failed e) = failed e
 
   -- ---- WHAT A WHOLE RUN HAS ANSWERED
 
@@ -201,7 +246,7 @@ module _ {Answer : ℕ → List ℕ → List ℕ → Type 0} where
   answers-one one none none = refl
   answers-one one (more a p) (more b q) = let e = one _ _ _ _ a b in let f = answers-one one p q in cc
 
-  module _ {first : List (List ℕ)} {start block out : List ℕ} {r : Run} (ran : Ran Answer first start block out r) (few : length (ran .asked .read) < mostOctets) (is-open : r .output .sink .closed ≡ false) where
+  module _ {first : List (List ℕ)} {start block out : List ℕ} {r : Run} (ran : Ran Answer first start block out r) (few : length (ran .asked .read) < mostOctets) (is-open : r .output .sink .closed ≡ false) (all-read : r .input .source .failed ≡ false) where
     -- IT ANSWERS EVERY LINE, however the reads cut them: those of all octets that were read are the first ones and those that are answered
     pub answers-all : linesOf (ran .asked .read) ≡ first ++ ran .lines
     answers-all = by (ran .stops)
@@ -209,25 +254,26 @@ module _ {Answer : ℕ → List ℕ → List ℕ → Type 0} where
         by : Stops (ran .asked) (r .output) → linesOf (ran .asked .read) ≡ first ++ ran .lines
         by (closed e) = absurd (subst T (sym e ∙ is-open) tt)
         by (many h) = absurd (omega (arith, h, few))
+        by (failed e) = absurd (subst T (sym e ∙ all-read) tt)
         by (over e f d) =
             let none : held block (r .input) ≡ [] = none-held block (r .input) f in
             (rw append-nil at (ran .asked .parts [] (λ _. refl))) ∙ (rw (d, none, no-lines, append-nil) (ran .these))
 
     -- IT WRITES ALL: the answers and the last line
     pub writes-all : ran .put .written ≡ ran .text ++ endText (length (ran .lines))
-    writes-all = sym (ran .put .parts ∙ ap (λ (l : List ℕ). ran .put .written ++ l) (ran .put .kept is-open ∙ rw (ran .all is-open)) ∙ append-nil (ran .put .written))
+    writes-all = sym (rw all-read at (ran .put .parts) ∙ ap (λ (l : List ℕ). ran .put .written ++ l) (ran .put .kept is-open ∙ rw (ran .all is-open)) ∙ append-nil (ran .put .written))
 
   -- ONE TEXT: two runs that read the same octets, however they were cut, have written the same
   module _ (one : (n : ℕ) (line t u : List ℕ) → Answer n line t → Answer n line u → t ≡ u) {first : List (List ℕ)} {start start′ block block′ out out′ : List ℕ} {r r′ : Run}
       (a : Ran Answer first start block out r) (b : Ran Answer first start′ block′ out′ r′) (same : a .asked .read ≡ b .asked .read) (few : length (a .asked .read) < mostOctets)
-      (a-open : r .output .sink .closed ≡ false) (b-open : r′ .output .sink .closed ≡ false) where
+      (a-open : r .output .sink .closed ≡ false) (b-open : r′ .output .sink .closed ≡ false) (a-read : r .input .source .failed ≡ false) (b-read : r′ .input .source .failed ≡ false) where
     lines-one : a .lines ≡ b .lines
     lines-one =
-        let e = sym (answers-all a few a-open) ∙ ap linesOf same ∙ answers-all b (rw same at few) b-open in
+        let e = sym (answers-all a few a-open a-read) ∙ ap linesOf same ∙ answers-all b (rw same at few) b-open b-read in
         sym (drop-append-seam first (a .lines)) ∙ ap (drop (length first)) e ∙ drop-append-seam first (b .lines)
 
     text-one : a .text ≡ b .text
     text-one = answers-one one (a .answers) (subst (λ (l : List (List ℕ)). Answers Answer 0 l (b .text)) (sym lines-one) (b .answers))
 
     pub ran-one : a .put .written ≡ b .put .written
-    ran-one = writes-all a few a-open ∙ rw (text-one, lines-one) (sym (writes-all b (rw same at few) b-open))
+    ran-one = writes-all a few a-open a-read ∙ rw (text-one, lines-one) (sym (writes-all b (rw same at few) b-open b-read))

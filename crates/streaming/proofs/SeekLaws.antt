@@ -11,7 +11,7 @@ use Rattle.text.specs.Marks.{FirstMark}
 use Rattle.streaming.specs.declared.input.Input.{Input}
 use Rattle.streaming.specs.Sources.{octetsFrom, Goes, here, reads}
 use Rattle.streaming.specs.Lines.{NoNewline}
-use Rattle.streaming.specs.Inputs.{SoundInput, longestLine, lineIn, Line, newline, over, LineTaken, NoLine, nothing, many, NextLine, Started, Cut, LastLine, line, none, Drops, same, dropped, Shortened, Refilled}
+use Rattle.streaming.specs.Inputs.{SoundInput, longestLine, lineIn, Line, newline, over, LineTaken, NoLine, nothing, many, failed, HeldLine, NextLine, Started, Cut, LastLine, line, none, Drops, same, dropped, Shortened, Refilled}
 use Rattle.streaming.proofs.SourceLaws.{take-to}
 use Rattle.streaming.proofs.LineLaws.{no-newlines}
 
@@ -49,15 +49,19 @@ seek-start short = record {
 }
 
 -- the search starts where the line before left off
-pub next-from : {start block : List ℕ} {before i r : Input} → Started before i → NextLine start block i r → NextLine start block before r
-next-from {start} {block} {before} {i} {r} s n = record { sound = n .sound; line = λ e. line-from (n .line e); none = λ e. none-from (n .none e) }
+pub next-same : {start block : List ℕ} {before i r : Input} → i .source ≡ before .source → i .taken ≡ before .taken → NextLine start block i r → NextLine start block before r
+next-same {start} {block} {before} {i} {r} same-source same-taken n = record { sound = n .sound; line = λ e. line-from (n .line e); none = λ e. none-from (n .none e) }
   where
     line-from : LineTaken start block i r → LineTaken start block before r
-    line-from l = record { read = l .read; line = l .line; mark = l .mark; goes = rw (← s .same-source, ← s .same-taken) (l .goes); whole = l .whole; ended = l .ended; is = l .is }
+    line-from l = record { read = l .read; line = l .line; mark = l .mark; goes = rw (← same-source, ← same-taken) (l .goes); whole = l .whole; ended = l .ended; is = l .is }
 
     none-from : NoLine start block i r → NoLine start block before r
-    none-from (nothing {read} g o e) = nothing {read = read} (rw (← s .same-source, ← s .same-taken) g) o e
-    none-from (many {read} {taken} g h) = many {read = read} {taken = taken} (rw (← s .same-source, ← s .same-taken) g) h
+    none-from (nothing {read} g o e) = nothing {read = read} (rw (← same-source, ← same-taken) g) o e
+    none-from (many {read} {taken} g h) = many {read = read} {taken = taken} (rw (← same-source, ← same-taken) g) h
+    none-from (failed {read} {taken} g h) = failed {read = read} {taken = taken} (rw (← same-source, ← same-taken) g) h
+
+pub next-from : {start block : List ℕ} {before i r : Input} → Started before i → NextLine start block i r → NextLine start block before r
+next-from s = next-same (s .same-source) (s .same-taken)
 
 -- the octets from `taken` up to `end`
 module _ {start block : List ℕ} {before i : Input} {left : ℕ} (s : Seeking start block before i left) (end : ℕ)
@@ -183,6 +187,17 @@ module _ {start block : List ℕ} {before i : Input} {left : ℕ} (s : Seeking s
 -- too many reads
 pub next-many : {start block : List ℕ} {before i : Input} {left : ℕ} → Seeking start block before i left → SoundInput i → i .ready ≡ false → left ≡ 0 → NextLine start block before i
 next-many s sound not-ready e = record { sound = sound; line = λ x. never x not-ready; none = λ _. many (s .goes) (omega (arith, s .most)) }
+
+-- a read failed
+pub next-failed : {start block : List ℕ} {before i : Input} {left : ℕ} → Seeking start block before i left → SoundInput i → i .ready ≡ false → i .source .failed ≡ true → NextLine start block before i
+next-failed s sound not-ready e = record { sound = sound; line = λ x. never x not-ready; none = λ _. failed (s .goes) e }
+
+-- the line that is held, and none
+pub held-found : {block : List ℕ} {i r : Input} → NextLine block block i r → r .ready ≡ true → r .source ≡ i .source → HeldLine block i r
+held-found n e s = record { sound = n .sound; line = n .line; same-source = s; same-taken = λ x. never e x }
+
+pub held-none : {block : List ℕ} {i r : Input} → Started i r → HeldLine block i r
+held-none s = record { sound = s .sound; line = λ x. never x (s .not-ready); same-source = s .same-source; same-taken = λ _. s .same-taken }
 
 -- more is read
 seek-more : {start block after : List ℕ} {before i r : Input} {left : ℕ} → Seeking start block before i left → 0 < left → i .source .over ≡ false → Refilled block after i r → Seeking start after before r (left - 1)

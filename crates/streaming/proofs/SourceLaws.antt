@@ -7,10 +7,11 @@ use native.Mathlib.Omega.{arith}
 use lib.Dec.{T, eqb}
 use lib.ListN.{length, take, drop, length-drop, take-append-drop}
 use lib.Seq.{length-take-le, take-take, take-add, drop-drop}
-use borrow.Author.Tests.{eqb-true, eqb-false}
+use borrow.Author.Tests.{eqb-true, eqb-false, eq-eqb}
 use borrow.Rule.Slice.PartMut.{putMid, same-len-mid, take-put}
+use Rattle.streaming.specs.declared.source.Got.{Got}
 use Rattle.streaming.specs.declared.source.Source.{Source}
-use Rattle.streaming.specs.Sources.{unreadYet, octetsFrom, ReadBehind, ReadMore, Goes, here, takes, reads}
+use Rattle.streaming.specs.Sources.{unreadYet, noOctets, octetsFrom, ReadBehind, ReadMore, Goes, here, takes, reads}
 
 -- ---- one read
 
@@ -18,22 +19,36 @@ some-more : (m n : ℕ) → eqb n 0 ≡ false → m < m + n
 some-more m zero e = absurd (eqb-false 0 0 e refl)
 some-more m (suc n) e = omega arith
 
--- what is lent from `kept` on comes back as v
-pub read-behind : (kept : ℕ) (b v : List ℕ) (n : ℕ) → kept ≤ length b → length v ≡ length (take (length b - kept) (drop kept b))
-    → (let B : List ℕ = putMid kept (length b - kept) b v in n ≤ length (take (length B - kept) (drop kept B)))
-    → ReadBehind kept b (putMid kept (length b - kept) b v) n
-read-behind kept b v n i whole read =
-    let B : List ℕ = putMid kept (length b - kept) b v in
-    let size : length B ≡ length b = same-len-mid kept (length b - kept) b v whole in
-    let d = length-drop kept B in
-    let t = length-take-le (length B - kept) (drop kept B) (omega arith) in
-    record { front = take-put kept (length b - kept) b v i; size = size; inside = omega arith }
+-- the buffer has at least so many octets; they are as they were, and it is as long
+pub record SameFront (kept : ℕ) (before b : List ℕ) : Type 0 where
+  pub enough : kept ≤ length b
+  pub front : take kept b ≡ take kept before
+  pub size : length b ≡ length before
+
+module _ {kept : ℕ} {before : List ℕ} where
+  -- what is lent from `kept` on comes back as v
+  pub tried : (b v : List ℕ) → SameFront kept before b → length v ≡ length (take (length b - kept) (drop kept b)) → SameFront kept before (putMid kept (length b - kept) b v)
+  tried b v s whole =
+      let size : length (putMid kept (length b - kept) b v) ≡ length b = same-len-mid kept (length b - kept) b v whole in
+      record { enough = omega (arith, s .enough); front = take-put kept (length b - kept) b v (s .enough) ∙ s .front; size = size ∙ s .size }
+
+  pub some-read : (b : List ℕ) (n : ℕ) → SameFront kept before b → n ≤ length (take (length b - kept) (drop kept b)) → ReadBehind kept before b (record { octets = n; failed = false })
+  some-read b n s h = record {
+    front = s .front;
+    size = s .size;
+    inside = omega (arith, s .enough, length-drop kept b, length-take-le (length b - kept) (drop kept b) (omega (arith, length-drop kept b)));
+    nothing = λ e. absurd (subst T (sym e) tt);
+  }
+
+  pub none-read : {b : List ℕ} {got : Got} → SameFront kept before b → got ≡ noOctets → ReadBehind kept before b got
+  none-read {b} s e = subst (ReadBehind kept before b) (sym e) (record { front = s .front; size = s .size; inside = omega (arith, s .enough); nothing = λ _. refl })
 
 -- b is the buffer with the octets from `at` on moved to its start, B that with what was read behind them
-pub more-read : (buf b B : List ℕ) (at : ℕ) (s : Source) (n : ℕ) → length b ≡ length buf → take (s .fill - at) b ≡ octetsFrom buf at s → ReadBehind (s .fill - at) b B n
-    → ReadMore buf B at s (record { fill = s .fill - at + n; over = eqb n 0 })
-more-read buf b B at s n l moved read =
+pub more-read : (buf b B : List ℕ) (at : ℕ) (s : Source) (got : Got) → length b ≡ length buf → take (s .fill - at) b ≡ octetsFrom buf at s → ReadBehind (s .fill - at) b B got
+    → ReadMore buf B at s (record { fill = s .fill - at + got .octets; over = eqb (got .octets) 0; failed = got .failed })
+more-read buf b B at s got l moved read =
     let m : ℕ = s .fill - at in
+    let n : ℕ = got .octets in
     let f : m + n - 0 ≡ m + n = omega arith in
     record {
       size = read .size ∙ l;
@@ -44,6 +59,7 @@ more-read buf b B at s n l moved read =
       over = λ e.
           let z : m + n - 0 ≡ m = omega (arith, eqb-true n 0 e) in
           ap (λ (k : ℕ). take k B) z ∙ read .front ∙ moved;
+      failed = λ e. eq-eqb n 0 (read .nothing e);
     }
 
 -- the octets that were held, and the piece behind them

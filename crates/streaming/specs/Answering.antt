@@ -4,14 +4,13 @@ use mathlib.Core.Bool.{true, false}
 use mathlib.Core.List.{List, [], _∷_, _++_}
 use Prim.Native.Nat.{ℕ, _+_, _≤_}
 use lib.ListN.{length}
-use Rattle.text.specs.AnswerLines.{endText}
 use Rattle.streaming.specs.declared.input.Input.{Input}
 use Rattle.streaming.specs.declared.output.Output.{Output}
 use Rattle.streaming.specs.declared.output.Run.{Run}
 use Rattle.streaming.specs.Sources.{unreadYet, octetsFrom, Goes}
 use Rattle.streaming.specs.Lines.{linesOf}
 use Rattle.streaming.specs.Inputs.{Line, mostOctets}
-use Rattle.streaming.specs.Outputs.{SoundOutput, PutOut}
+use Rattle.streaming.specs.Outputs.{SoundOutput, PutOut, lastText}
 
 -- THE LINES SO FAR: reads in a row brought octets, whose lines are those that were taken, and those of the octets that were dropped of a line or are held.
 -- Whatever comes later goes with these.
@@ -30,11 +29,12 @@ pub record Taken (first : List (List ℕ)) (start block : List ℕ) (i : Input) 
   pub these : asked .lines ≡ first
   pub whole : asked .dropped ≡ []
 
--- why a run stops: the output is closed, nothing is left to read, or more octets came than a run reads
+-- why a run stops: the output is closed, nothing is left to read, more octets came than a run reads, or a read failed, which was said on standard error
 pub data Stops {start block : List ℕ} {i : Input} (asked : LinesRead start block i) (o : Output) : Type 0 where
   closed : o .sink .closed ≡ true → Stops asked o
   over : i .source .over ≡ true → i .taken ≡ i .source .fill → asked .dropped ≡ [] → Stops asked o
   many : mostOctets ≤ length (asked .read) → Stops asked o
+  failed : i .source .failed ≡ true → Stops asked o
 
 -- `Answer n line t`: t is the text of the answer to that line, the n-th
 module _ (Answer : ℕ → List ℕ → List ℕ → Type 0) where
@@ -67,7 +67,7 @@ module _ (Answer : ℕ → List ℕ → List ℕ → Type 0) where
     pub stops : Stops (at .asked) (r .output)
     pub sound : SoundOutput (r .output)
 
-  -- WHAT A RUN DOES: it answers lines until it stops; then it puts the last line with their number, and all is written, unless the output is closed
+  -- WHAT A RUN DOES: it answers lines until it stops; then it puts the last line with their number, unless a read failed, and all is written, unless the output is closed
   pub record Ran (first : List (List ℕ)) (start block out : List ℕ) (r : Run) : Type 0 where
     pub asked : LinesRead start block (r .input)
     pub lines : List (List ℕ)
@@ -76,5 +76,5 @@ module _ (Answer : ℕ → List ℕ → List ℕ → Type 0) where
     pub answers : Answers 0 lines text
     pub count : r .output .answered ≡ length lines
     pub stops : Stops asked (r .output)
-    pub put : PutOut (text ++ endText (length lines)) out (r .output)
+    pub put : PutOut (text ++ lastText (r .input .source .failed) (length lines)) out (r .output)
     pub all : r .output .sink .closed ≡ false → r .output .put ≡ 0

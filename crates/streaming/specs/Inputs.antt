@@ -54,12 +54,20 @@ pub record LineTaken (before block : List ℕ) (i r : Input) : Type 0 where
 abbrev pub mostOctets : ℕ
 mostOctets = 4611686018427387904
 
--- why there is no line: nothing is left, or too much was read in search of its end
+-- why there is no line: nothing is left, too much was read in search of its end, or a read failed
 pub data NoLine (before block : List ℕ) (i r : Input) : Type 0 where
   nothing : {read : List ℕ} → Goes before (i .taken) (i .source) block (r .taken) (r .source) read [] → r .source .over ≡ true → r .taken ≡ r .source .fill → NoLine before block i r
   many : {read taken : List ℕ} → Goes before (i .taken) (i .source) block (r .taken) (r .source) read taken → mostOctets ≤ length read → NoLine before block i r
+  failed : {read taken : List ℕ} → Goes before (i .taken) (i .source) block (r .taken) (r .source) read taken → r .source .failed ≡ true → NoLine before block i r
 
--- WHAT next_line HANDS BACK: the next line, or none
+-- what held_line hands back: the next line, or nothing is taken; it reads nothing
+pub record HeldLine (block : List ℕ) (i r : Input) : Type 0 where
+  pub sound : SoundInput r
+  pub line : r .ready ≡ true → LineTaken block block i r
+  pub same-source : r .source ≡ i .source
+  pub same-taken : r .ready ≡ false → r .taken ≡ i .taken
+
+-- what read_line hands back: the next line, or none
 pub record NextLine (before block : List ℕ) (i r : Input) : Type 0 where
   pub sound : SoundInput r
   pub line : r .ready ≡ true → LineTaken before block i r

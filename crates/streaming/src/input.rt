@@ -6,7 +6,7 @@ ghost use mathlib.Core.Bool.{true, false};
 ghost use Prim.Native.Nat.{_≤_};
 ghost use lib.ListN.{length, take};
 ghost use Rattle.text.specs.Marks.{FirstMark};
-ghost use Rattle.streaming.specs.Inputs.{noInput, SoundInput, Cuts, Cut, LastLine, Started, Shortened, Refilled, NextLine, IsLong};
+ghost use Rattle.streaming.specs.Inputs.{noInput, SoundInput, Cuts, Cut, LastLine, Started, Shortened, Refilled, HeldLine, NextLine, IsLong};
 
 const LONGEST_LINE: usize = 4096;
 
@@ -39,8 +39,22 @@ pub fn no_input() -> Input
     }
 }
 
-// Goes on to the next line. The end of the input ends a last line, too.
-pub fn next_line(block: &mut [u8; 65536], before: Input) -> Input
+// The next line, if what was read has its end.
+pub fn held_line(block: &[u8; 65536], before: Input) -> Input
+    requires { ⌜ SoundInput before ⌝ }
+    ensures { λ r. ⌜ HeldLine (now (block .entry)) before r ⌝ }
+{
+    let input = started(before);
+    let end = newline(block, input);
+    let source = input.source;
+    if end < source::filled(source) {
+        return cut(input, end, end + 1);
+    }
+    input
+}
+
+// Goes on to the next line. The end of the input ends a last line, too; a read that failed ends none.
+pub fn read_line(block: &mut [u8; 65536], before: Input) -> Input
     requires { ⌜ SoundInput before ⌝ }
     ensures { λ r. ⌜ NextLine (now (block .entry)) (now (block .exit)) before r ⌝ }
 {
@@ -51,6 +65,9 @@ pub fn next_line(block: &mut [u8; 65536], before: Input) -> Input
         let source = input.source;
         if end < source::filled(source) {
             return cut(input, end, end + 1);
+        }
+        if source::is_failed(source) {
+            return input;
         }
         if source::is_over(source) {
             return last_line(input);

@@ -1,13 +1,16 @@
 // Answers, written to standard output when there is no room for one more, and the last line.
+use crate::input;
 use crate::input::Input;
 use crate::sink;
 use crate::sink::Sink;
+use crate::source;
 ghost use Prim.Native.Nat.{_≤_};
 ghost use lib.ListN.{length, take};
 ghost use mathlib.Core.Path.{_≡_};
 ghost use mathlib.Core.Bool.{false};
 ghost use Rattle.streaming.specs.Sinks.{Wrote};
-ghost use Rattle.streaming.specs.Outputs.{noOutput, SoundOutput, Written, MadeRoom, WritesEnd};
+ghost use Rattle.streaming.specs.Inputs.{SoundInput, NextLine};
+ghost use Rattle.streaming.specs.Outputs.{noOutput, SoundOutput, Written, MadeRoom, EndWritten, NextOfRun, WritesEnd};
 
 // Answers are written before they take more octets.
 const ROOM: usize = 65536;
@@ -54,14 +57,59 @@ pub fn make_room(out: &[u8; 65536], output: Output, longest: usize) -> Output
     output
 }
 
-// Writes the answers that are left, and the number of lines. Nothing is written after a write that failed.
-pub fn write_end(out: &mut [u8; 65536], output: Output) -> Output
-    requires { ⌜ SoundOutput output ⌝ }
-    ensures { λ r. ⌜ WritesEnd (now (out .entry)) (now (out .exit)) output r ⌝ }
+// Goes on to the next line. Before anything is read the answers are written, so that none waits for what is not there yet.
+pub fn next_line(out: &[u8; 65536], block: &mut [u8; 65536], before: Run) -> Run
+    requires { ⌜ SoundInput (before .input) ⌝ }
+    requires { ⌜ SoundOutput (before .output) ⌝ }
+    requires { ⌜ before .output .sink .closed ≡ false ⌝ }
+    ensures { λ r. ⌜ NextOfRun (now (block .entry)) (now (block .exit)) (now (out .entry)) before r ⌝ }
 {
-    if sink::is_closed(output.sink) {
-        return output;
+    let output = before.output;
+    let input = input::held_line(block, before.input);
+    if input.ready {
+        return Run { input, output };
     }
+    let output = written(out, output);
+    if sink::is_closed(output.sink) {
+        return Run { input, output };
+    }
+    let input = read_on(block, input, output);
+    Run { input, output }
+}
+
+// Reads the next line, where no answer is left to be written. The answers are here for what it requires alone.
+fn read_on(block: &mut [u8; 65536], input: Input, output: Output) -> Input
+    requires { ⌜ SoundInput input ⌝ }
+    requires { ⌜ output .put ≡ 0 ⌝ }
+    ensures { λ r. ⌜ NextLine (now (block .entry)) (now (block .exit)) input r ⌝ }
+{
+    input::read_line(block, input)
+}
+
+// Writes the answers that are left and, unless a read failed, the number of lines. Nothing is written after a write that failed.
+pub fn write_end(out: &mut [u8; 65536], before: Run) -> Run
+    requires { ⌜ SoundOutput (before .output) ⌝ }
+    ensures { λ r. ⌜ WritesEnd (now (out .entry)) (now (out .exit)) before r ⌝ }
+{
+    let input = before.input;
+    let output = before.output;
+    if sink::is_closed(output.sink) {
+        return before;
+    }
+    if source::is_failed(input.source) {
+        let output = written(out, output);
+        return Run { input, output };
+    }
+    let output = end_written(out, output);
+    Run { input, output }
+}
+
+// Writes the answers that are left, and the number of lines.
+fn end_written(out: &mut [u8; 65536], output: Output) -> Output
+    requires { ⌜ SoundOutput output ⌝ }
+    requires { ⌜ output .sink .closed ≡ false ⌝ }
+    ensures { λ r. ⌜ EndWritten (now (out .entry)) (now (out .exit)) output r ⌝ }
+{
     let mut left = make_room(out, output, LONGEST_END);
     if sink::is_closed(left.sink) {
         return left;

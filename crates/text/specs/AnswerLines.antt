@@ -12,21 +12,21 @@ use Rattle.text.specs.Text.{decimal, signedDecimal}
 use Rattle.text.specs.declared.said.SaidLine.{SaidLine}
 use Rattle.text.specs.declared.said.SaidLine.the-variants.{Unreadable, Refused, Missing, One, Two}
 
--- of a code: a refusal's number, or the values
+-- of a code: the values, or a refusal's number
 unfoldable pub lineOfCode : SaidCode → SaidLine
-lineOfCode (code.Refused why) = Refused (numberOf why)
 lineOfCode (code.Natural n) = One (record { 0 = pos n })
-lineOfCode (code.Signed sign n) = Two sign (record { 0 = pos n })
+lineOfCode (code.Signed c) = Two (c .0) (record { 0 = pos (c .1) })
 lineOfCode (code.Longitude c) = One (record { 0 = c .0 })
+lineOfCode (code.Refused why) = Refused (numberOf why)
 
--- of a quantity: a refusal's number, or the value
+-- of a quantity: the value, or a refusal's number
 unfoldable pub lineOfQuantity : SaidQuantity → SaidLine
-lineOfQuantity (quantity.Refused why) = Refused (numberOf why)
-lineOfQuantity quantity.Missing = Missing
 lineOfQuantity (quantity.Natural n) = One (record { 0 = pos n })
 lineOfQuantity (quantity.Coordinate x) = One (record { 0 = x .0 })
 lineOfQuantity (quantity.Altitude x) = One (record { 0 = x .0 })
 lineOfQuantity (quantity.VerticalSpeed x) = One (record { 0 = x .0 })
+lineOfQuantity quantity.Missing = Missing
+lineOfQuantity (quantity.Refused why) = Refused (numberOf why)
 
 -- "0 1 " or "0 0 "
 unfoldable pub signText : Bool → List ℕ

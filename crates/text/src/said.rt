@@ -20,10 +20,10 @@ pub fn line_of_code(said: SaidCode) -> SaidLine
     ensures { λ r. ⌜ r ≡ lineOfCode said ⌝ }
 {
     match said {
-        SaidCode::Refused(why) => SaidLine::Refused(ground::refusal_number(why)),
         SaidCode::Natural(n) => SaidLine::One(Whole(n as i64)),
-        SaidCode::Signed(sign, n) => SaidLine::Two(sign, Whole(n as i64)),
+        SaidCode::Signed(code) => SaidLine::Two(code.0, Whole(code.1 as i64)),
         SaidCode::Longitude(code) => SaidLine::One(Whole(code.0 as i64)),
+        SaidCode::Refused(why) => SaidLine::Refused(ground::refusal_number(why)),
     }
 }
 
@@ -32,11 +32,11 @@ pub fn line_of_quantity(said: SaidQuantity) -> SaidLine
     ensures { λ r. ⌜ r ≡ lineOfQuantity said ⌝ }
 {
     match said {
-        SaidQuantity::Refused(why) => SaidLine::Refused(ground::refusal_number(why)),
-        SaidQuantity::Missing => SaidLine::Missing,
         SaidQuantity::Natural(n) => SaidLine::One(Whole(n as i64)),
         SaidQuantity::Coordinate(x) => SaidLine::One(Whole(x.0)),
         SaidQuantity::Altitude(x) => SaidLine::One(Whole(x.0 as i64)),
         SaidQuantity::VerticalSpeed(x) => SaidLine::One(Whole(x.0 as i64)),
+        SaidQuantity::Missing => SaidLine::Missing,
+        SaidQuantity::Refused(why) => SaidLine::Refused(ground::refusal_number(why)),
     }
 }

@@ -16,7 +16,7 @@ fn take_lines(block: &mut [u8; 65536]) -> u64 {
     let mut input = streaming::no_input();
     let mut lines: u64 = 0;
     while lines < u64::MAX {
-        input = streaming::next_line(block, input);
+        input = streaming::read_line(block, input);
         if !input.ready {
             return lines;
         }

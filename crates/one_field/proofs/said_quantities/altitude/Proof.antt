@@ -1,7 +1,7 @@
 -- `one_field::said_quantities::altitude` meets its contract, in each arm for the answer that it matched.
 use mathlib.Core.Path.{sym, ap, _∙_}
 use Rattle.ground.proofs.AnswerLaws.{refusal-back}
-use Rattle.ground.specs.declared.said.SaidQuantity.the-variants.{Refused, Altitude}
+use Rattle.ground.specs.declared.said.SaidQuantity.the-variants.{Altitude, Refused}
 use Rattle.ground.specs.Answers.{tells}
 use Rattle.lengths.specs.Lengths.{saidAltitude}
 use Rattle.lengths.specs.declared.AltitudeReported.{AltitudeReported}

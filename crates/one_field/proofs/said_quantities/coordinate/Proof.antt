@@ -1,7 +1,7 @@
 -- `one_field::said_quantities::coordinate` meets its contract, in each arm for the answer that it matched.
 use mathlib.Core.Path.{sym, ap, _∙_}
 use Rattle.ground.proofs.AnswerLaws.{refusal-back}
-use Rattle.ground.specs.declared.said.SaidQuantity.the-variants.{Refused, Coordinate}
+use Rattle.ground.specs.declared.said.SaidQuantity.the-variants.{Coordinate, Refused}
 use Rattle.ground.specs.Answers.{tells}
 use Rattle.coordinates.specs.Latitude.{saidCoordinate}
 use Rattle.coordinates.specs.declared.CoordinateReported.{CoordinateReported}
