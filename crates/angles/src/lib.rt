@@ -5,32 +5,32 @@ ghost use Rattle.angles.specs.Angles.{CodedOffset, ReportedOffset, CodedIncluded
 
 use ground::{BearingCode, IncludedCode, Millidegrees, OffsetCode, OrientationCode, Refusal};
 
-#[derive(Drop)]
+#[derive(Clone, Copy)]
 pub enum OffsetCoded {
     Code(OffsetCode),
     Refused(Refusal),
 }
 
-#[derive(Drop)]
+#[derive(Clone, Copy)]
 pub enum IncludedCoded {
     Code(IncludedCode),
     Refused(Refusal),
 }
 
-#[derive(Drop)]
+#[derive(Clone, Copy)]
 pub enum OrientationCoded {
     Code(OrientationCode),
     Refused(Refusal),
 }
 
-#[derive(Drop)]
+#[derive(Clone, Copy)]
 pub enum BearingCoded {
     Code(BearingCode),
     Refused(Refusal),
 }
 
 // What any of the four reports.
-#[derive(Drop)]
+#[derive(Clone, Copy)]
 pub enum AngleReported {
     Angle(Millidegrees),
     Refused(Refusal),

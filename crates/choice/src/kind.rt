@@ -8,7 +8,7 @@ ghost use Rattle.choice.specs.Kinds.{FindsKind, FindsListed};
 use layout::Kind;
 use requests::Wanted;
 
-#[derive(Drop)]
+#[derive(Clone, Copy)]
 pub enum KindFound {
     Kind(Kind),
     NoKind,

@@ -15,19 +15,19 @@ use requests::{
     Horizontal, Request, Wanted,
 };
 
-#[derive(Drop)]
+#[derive(Clone, Copy)]
 pub enum RequestCoded {
     Codes(Wanted),
     Refused(Refusal),
 }
 
-#[derive(Drop)]
+#[derive(Clone, Copy)]
 enum AreaCoded {
     Codes(AreaWanted),
     TooLarge,
 }
 
-#[derive(Drop)]
+#[derive(Clone, Copy)]
 enum HeightCoded {
     Codes(AltitudeUncertaintyWanted),
     TooLarge,

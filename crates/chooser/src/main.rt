@@ -47,32 +47,27 @@ fn answer_input(out: &mut [u8; 65536], block: &mut [u8; 65536]) -> Run
     answer_lines(out, block, first, list)
 }
 
-// Answers every line after the first. More is read only where no line is held. The end of the input ends it, a closed output,
-// and a read that fails.
+// Answers every line after the first. The end of the input ends it, a closed output, and a read that fails.
 fn answer_lines(out: &mut [u8; 65536], block: &mut [u8; 65536], first: Run, list: u16) -> Run
     requires sound_input { SoundInput first.input }
     requires sound_output { SoundOutput first.output }
     requires closed_value { first.output.sink.closed ≡ false }
     ensures { AnswersRest list first block.old block.new out.old out.new result }
 {
-    let mut input = first.input;
-    let mut output = first.output;
-    while output.answered < MOST_LINES {
-        input = streaming::held_line(block, input);
+    let mut run = first;
+    while run.output.answered < MOST_LINES {
+        let next = streaming::next_line(out, block, run);
+        let input = next.input;
         if !input.ready {
-            let next = streaming::next_line(out, block, Run { input, output });
-            input = next.input;
-            output = next.output;
-            if !input.ready {
-                return next;
-            }
+            return next;
         }
-        output = answer_line(out, block, input, list, output);
+        let output = answer_line(out, block, input, list, next.output);
+        run = Run { input, output };
         if streaming::is_closed(output.sink) {
-            return Run { input, output };
+            return run;
         }
     }
-    Run { input, output }
+    run
 }
 
 // Answers the line that is held.

@@ -6,7 +6,7 @@ ghost use Rattle.code_arrays.specs.QuantityNumbers.{missing, Natural32, natural_
 use ground::Whole;
 
 // A number of 32 bits with a sign.
-#[derive(Drop)]
+#[derive(Clone, Copy)]
 pub struct Narrow(pub i32);
 
 // The mark of a missing quantity: the least number of 64 bits.

@@ -36,29 +36,26 @@ fn run(out: &mut [u8; 65536], block: &mut [u8; 65536]) -> Run
     streaming::write_end(out, answered)
 }
 
-// Answers every line of the input. More is read only where no line is held. The end of the input ends it, a closed output, and a
-// read that fails.
+// Answers every line of the input. The end of the input ends it, a closed output, and a read that fails.
 fn answer_lines(out: &mut [u8; 65536], block: &mut [u8; 65536]) -> Run
     ensures { Stopped CoderAnswer [] block.old block.new out.new result }
 {
-    let mut input = streaming::no_input();
-    let mut output = streaming::no_output();
-    while output.answered < MOST_LINES {
-        input = streaming::held_line(block, input);
+    let input = streaming::no_input();
+    let output = streaming::no_output();
+    let mut run = Run { input, output };
+    while run.output.answered < MOST_LINES {
+        let next = streaming::next_line(out, block, run);
+        let input = next.input;
         if !input.ready {
-            let next = streaming::next_line(out, block, Run { input, output });
-            input = next.input;
-            output = next.output;
-            if !input.ready {
-                return next;
-            }
+            return next;
         }
-        output = answer_line(out, block, input, output);
+        let output = answer_line(out, block, input, next.output);
+        run = Run { input, output };
         if streaming::is_closed(output.sink) {
-            return Run { input, output };
+            return run;
         }
     }
-    Run { input, output }
+    run
 }
 
 // Answers the line that is held.

@@ -5,13 +5,13 @@ ghost use Rattle.confidences.specs.Confidences.{CodedConfidence, ReportedConfide
 
 use ground::{Confidence, ConfidenceCode, Refusal};
 
-#[derive(Drop)]
+#[derive(Clone, Copy)]
 pub enum ConfidenceCoded {
     Code(ConfidenceCode),
     Refused(Refusal),
 }
 
-#[derive(Drop)]
+#[derive(Clone, Copy)]
 pub enum ConfidenceReported {
     Confidence(Confidence),
     Refused(Refusal),

@@ -4,7 +4,7 @@ ghost use Rattle.coordinates.specs.Latitude.{CodedLatitude, ReportedLatitude};
 use crate::CoordinateReported;
 use ground::{LatitudeCode, Nanodegrees, Parts, Refusal, Whole};
 
-#[derive(Drop)]
+#[derive(Clone, Copy)]
 pub enum LatitudeCoded {
     Code(LatitudeCode),
     Refused(Refusal),

@@ -9,7 +9,7 @@ pub use latitudes::{LatitudeCoded, latitude_code, reported_latitude};
 pub use longitudes::{LongitudeCoded, longitude_code, reported_longitude};
 
 // What either code reports.
-#[derive(Drop)]
+#[derive(Clone, Copy)]
 pub enum CoordinateReported {
     Coordinate(Nanodegrees),
     Refused(Refusal),

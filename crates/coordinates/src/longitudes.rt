@@ -6,7 +6,7 @@ ghost use Rattle.coordinates.specs.Longitude.{CodedLongitude, ReportedLongitude}
 use crate::CoordinateReported;
 use ground::{LongitudeCode, Nanodegrees, Refusal, Whole};
 
-#[derive(Drop)]
+#[derive(Clone, Copy)]
 pub enum LongitudeCoded {
     Code(LongitudeCode),
     Refused(Refusal),

@@ -8,7 +8,7 @@ use ground::{AltitudeUncertaintyCode, UncertaintyCode};
 use radii::RadiusReported;
 
 // The code K, the printed figure in millimetres, and half a unit of its last printed digit.
-#[derive(Drop)]
+#[derive(Clone, Copy)]
 struct Entry(u8, u32, u32);
 
 const UNCERTAINTIES: [Entry; 10] = [
@@ -37,7 +37,7 @@ const ALTITUDE_UNCERTAINTIES: [Entry; 10] = [
     Entry(127, 990500, 50),
 ];
 
-#[derive(Drop)]
+#[derive(Clone, Copy)]
 enum Table {
     Uncertainty,
     AltitudeUncertainty,

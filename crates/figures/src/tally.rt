@@ -3,7 +3,7 @@ ghost use Rattle.figures.specs.Counting.{Room, After};
 
 use streaming::Sink;
 
-#[derive(Drop)]
+#[derive(Clone, Copy)]
 pub struct Tally {
     pub figures: u64,
     pub differences: u64,

@@ -5,7 +5,7 @@ ghost use Rattle.std.specs.Prelude.{◌≡◌, ◌<◌};
 ghost use Rattle.frames.specs.Frames.{frame_of, head_sound};
 
 // What stands at the start of some octets.
-#[derive(Drop)]
+#[derive(Clone, Copy)]
 pub enum Frame {
     // An unbroken frame: its message is the `size` octets after the first four.
     Whole { kind: u8, size: usize },

@@ -1,34 +1,34 @@
 // Quantities, in the widths in which document 01 has them arrive. No two units mix.
 
 // Latitude and longitude.
-#[derive(Drop)]
+#[derive(Clone, Copy)]
 pub struct Nanodegrees(pub i64);
 
 // Every other angle.
-#[derive(Drop)]
+#[derive(Clone, Copy)]
 pub struct Millidegrees(pub u32);
 
-#[derive(Drop)]
+#[derive(Clone, Copy)]
 pub struct Millimetres(pub u32);
 
 // An altitude: a depth is below zero.
-#[derive(Drop)]
+#[derive(Clone, Copy)]
 pub struct SignedMillimetres(pub i32);
 
-#[derive(Drop)]
+#[derive(Clone, Copy)]
 pub struct MetresPerHour(pub u32);
 
 // A vertical speed: downward is below zero.
-#[derive(Drop)]
+#[derive(Clone, Copy)]
 pub struct SignedMetresPerHour(pub i32);
 
-#[derive(Drop)]
+#[derive(Clone, Copy)]
 pub enum Confidence {
     PerCent(u32),
     Missing,
 }
 
-#[derive(Drop)]
+#[derive(Clone, Copy)]
 pub enum UncertaintySpeed {
     Speed(MetresPerHour),
     Missing,

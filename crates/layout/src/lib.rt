@@ -16,7 +16,7 @@ pub use velocity::{
 };
 
 // What writing a record answers: the number of octets of its message, 0 where it is refused.
-#[derive(Drop)]
+#[derive(Clone, Copy)]
 pub struct Written {
     pub outcome: Outcome,
     pub length: usize,

@@ -9,7 +9,7 @@ use ground::{
     LatitudeCode, LongitudeCode, OffsetCode, OrientationCode, Outcome, UncertaintyCode,
 };
 
-#[derive(Drop)]
+#[derive(Clone, Copy)]
 pub enum Kind {
     // no shape: the record of a refusal
     Nothing,
@@ -22,7 +22,7 @@ pub enum Kind {
     Arc,
 }
 
-#[derive(Drop)]
+#[derive(Clone, Copy)]
 pub struct Shape {
     pub kind: Kind,
     pub latitude: LatitudeCode,
@@ -44,7 +44,7 @@ pub struct Shape {
     pub longitudes: [LongitudeCode; 15],
 }
 
-#[derive(Drop)]
+#[derive(Clone, Copy)]
 pub struct ShapeRead {
     pub outcome: Outcome,
     pub shape: Shape,

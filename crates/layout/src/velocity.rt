@@ -5,7 +5,7 @@ ghost use Rattle.layout.specs.Velocities.{blank_velocity, velocity_kind_of};
 
 use ground::{BearingCode, HorizontalSpeedCode, Outcome, UncertaintySpeedCode, VerticalSpeedCode};
 
-#[derive(Drop)]
+#[derive(Clone, Copy)]
 pub enum VelocityKind {
     // no velocity: the record of a refusal
     Nothing,
@@ -15,7 +15,7 @@ pub enum VelocityKind {
     HorizontalVerticalUncertain,
 }
 
-#[derive(Drop)]
+#[derive(Clone, Copy)]
 pub struct Velocity {
     pub kind: VelocityKind,
     pub bearing: BearingCode,
@@ -25,7 +25,7 @@ pub struct Velocity {
     pub vertical_uncertainty: UncertaintySpeedCode,
 }
 
-#[derive(Drop)]
+#[derive(Clone, Copy)]
 pub struct VelocityRead {
     pub outcome: Outcome,
     pub velocity: Velocity,

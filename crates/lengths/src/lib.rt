@@ -7,7 +7,7 @@ use ground::{
     AltitudeCode, InnerRadiusCode, Millimetres, Parts, Refusal, SignedMillimetres, Whole,
 };
 
-#[derive(Drop)]
+#[derive(Clone, Copy)]
 pub enum AltitudeReported {
     Altitude(SignedMillimetres),
     Refused(Refusal),

@@ -8,19 +8,19 @@ use ground::{Confidence, Millimetres, Nanodegrees, SignedMillimetres, Whole};
 use request_lines::{Amount, Asked, HorizontalRead};
 use requests::{Altitude, AltitudeUncertainty, Request};
 
-#[derive(Drop)]
+#[derive(Clone, Copy)]
 pub enum AltitudeRead {
     Read(Altitude),
     Unreadable,
 }
 
-#[derive(Drop)]
+#[derive(Clone, Copy)]
 pub enum UncertaintyRead {
     Read(AltitudeUncertainty),
     Unreadable,
 }
 
-#[derive(Drop)]
+#[derive(Clone, Copy)]
 pub enum ConfidenceRead {
     Read(Confidence),
     Unreadable,

@@ -13,7 +13,7 @@ use streaming::{Sink, Source};
 const MOST_FRAMES: u64 = 4611686018427387904;
 
 // The octets of the buffer from `at` to the end of what was read are not yet listed.
-#[derive(Drop)]
+#[derive(Clone, Copy)]
 struct Held {
     at: usize,
     // what was read

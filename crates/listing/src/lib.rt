@@ -11,7 +11,7 @@ use frames::Frame;
 // No frame's text, with the end line behind a broken one, takes more octets.
 const LONGEST_STEP: usize = 800;
 
-#[derive(Drop)]
+#[derive(Clone, Copy)]
 pub struct Listed {
     // octets of the input that are listed, and not to be given again
     pub taken: usize,

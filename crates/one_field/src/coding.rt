@@ -9,14 +9,14 @@ use ground::{
     SignedMetresPerHour, SignedMillimetres, UncertaintySpeed,
 };
 
-#[derive(Drop)]
+#[derive(Clone, Copy)]
 pub enum Coordinate {
     Latitude,
     Longitude,
 }
 
 // The fields whose quantities arrive unsigned in 32 bits.
-#[derive(Drop)]
+#[derive(Clone, Copy)]
 pub enum Unsigned {
     Uncertainty,
     AltitudeUncertainty,
@@ -31,7 +31,7 @@ pub enum Unsigned {
 }
 
 // The fields whose quantity may be missing.
-#[derive(Drop)]
+#[derive(Clone, Copy)]
 pub enum Markable {
     UncertaintySpeed,
     Confidence,

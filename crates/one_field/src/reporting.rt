@@ -13,7 +13,7 @@ use ground::{
 };
 
 // The fields whose codes are of 8 bits at most.
-#[derive(Drop)]
+#[derive(Clone, Copy)]
 pub enum Byte {
     Uncertainty,
     AltitudeUncertainty,
@@ -25,7 +25,7 @@ pub enum Byte {
 }
 
 // The fields whose codes are of 9 to 16 bits.
-#[derive(Drop)]
+#[derive(Clone, Copy)]
 pub enum Word {
     InnerRadius,
     Bearing,
@@ -33,7 +33,7 @@ pub enum Word {
 }
 
 // The fields whose codes have a sign and a number.
-#[derive(Drop)]
+#[derive(Clone, Copy)]
 pub enum Signed {
     Latitude,
     Altitude,

@@ -5,14 +5,14 @@ ghost use Rattle.outline_codes.specs.Points.{CodesPoint, CodesPoints, blank_poin
 use coordinates::{LatitudeCoded, LongitudeCoded};
 use ground::{LatitudeCode, LongitudeCode, Nanodegrees};
 
-#[derive(Drop)]
+#[derive(Clone, Copy)]
 pub struct Points {
     pub in_range: bool,
     pub latitudes: [LatitudeCode; 15],
     pub longitudes: [LongitudeCode; 15],
 }
 
-#[derive(Drop)]
+#[derive(Clone, Copy)]
 pub enum PointCoded {
     Codes(LatitudeCode, LongitudeCode),
     OutOfRange,

@@ -10,7 +10,7 @@ use ground::{
 };
 use quantities::ShapeQuantities;
 
-#[derive(Drop)]
+#[derive(Clone, Copy)]
 pub struct Ranged {
     pub latitude: LatitudeCode,
     pub longitude: LongitudeCode,
@@ -20,7 +20,7 @@ pub struct Ranged {
     pub confidence: ConfidenceCode,
 }
 
-#[derive(Drop)]
+#[derive(Clone, Copy)]
 pub enum RangedCoded {
     Codes(Ranged),
     OutOfRange,

@@ -5,7 +5,7 @@ use ground::{AltitudeUncertaintyCode, UncertaintyCode};
 use quantities::ShapeQuantities;
 use radii::{AltitudeUncertaintyCoded, UncertaintyCoded};
 
-#[derive(Drop)]
+#[derive(Clone, Copy)]
 pub struct Sizes {
     pub uncertainty: UncertaintyCode,
     pub semi_major: UncertaintyCode,
@@ -13,7 +13,7 @@ pub struct Sizes {
     pub altitude_uncertainty: AltitudeUncertaintyCode,
 }
 
-#[derive(Drop)]
+#[derive(Clone, Copy)]
 pub enum SizesCoded {
     Codes(Sizes),
     TooLarge,

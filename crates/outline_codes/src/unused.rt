@@ -9,7 +9,7 @@ use layout::Kind;
 use quantities::ShapeQuantities;
 
 // Whether a kind uses the places of a group.
-#[derive(Drop)]
+#[derive(Clone, Copy)]
 pub struct Uses {
     pub position: bool,
     pub altitude: bool,

@@ -6,7 +6,7 @@ ghost use Rattle.quantities.specs.Shapes.{no_shape};
 use ground::{Confidence, Millidegrees, Millimetres, Nanodegrees, Outcome, SignedMillimetres};
 use layout::{Kind, Shape};
 
-#[derive(Drop)]
+#[derive(Clone, Copy)]
 pub struct ShapeQuantities {
     pub kind: Kind,
     pub latitude: Nanodegrees,
@@ -28,13 +28,13 @@ pub struct ShapeQuantities {
     pub longitudes: [Nanodegrees; 15],
 }
 
-#[derive(Drop)]
+#[derive(Clone, Copy)]
 pub struct ShapeReported {
     pub outcome: Outcome,
     pub quantities: ShapeQuantities,
 }
 
-#[derive(Drop)]
+#[derive(Clone, Copy)]
 pub struct ShapeCoded {
     pub outcome: Outcome,
     pub shape: Shape,

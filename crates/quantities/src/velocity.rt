@@ -5,7 +5,7 @@ ghost use Rattle.quantities.specs.Velocities.{no_velocity};
 use ground::{MetresPerHour, Millidegrees, Outcome, SignedMetresPerHour, UncertaintySpeed};
 use layout::{Velocity, VelocityKind};
 
-#[derive(Drop)]
+#[derive(Clone, Copy)]
 pub struct VelocityQuantities {
     pub kind: VelocityKind,
     pub bearing: Millidegrees,
@@ -15,13 +15,13 @@ pub struct VelocityQuantities {
     pub vertical_uncertainty: UncertaintySpeed,
 }
 
-#[derive(Drop)]
+#[derive(Clone, Copy)]
 pub struct VelocityReported {
     pub outcome: Outcome,
     pub quantities: VelocityQuantities,
 }
 
-#[derive(Drop)]
+#[derive(Clone, Copy)]
 pub struct VelocityCoded {
     pub outcome: Outcome,
     pub velocity: Velocity,

@@ -10,20 +10,20 @@ ghost use Rattle.radii.specs.Radii.{CodedUncertainty, ReportedUncertainty, Coded
 use ground::{AltitudeUncertaintyCode, Millimetres, Refusal, UncertaintyCode};
 use tables::{HEIGHTS, RADII, Table};
 
-#[derive(Drop)]
+#[derive(Clone, Copy)]
 pub enum UncertaintyCoded {
     Code(UncertaintyCode),
     Refused(Refusal),
 }
 
-#[derive(Drop)]
+#[derive(Clone, Copy)]
 pub enum AltitudeUncertaintyCoded {
     Code(AltitudeUncertaintyCode),
     Refused(Refusal),
 }
 
 // What either code reports.
-#[derive(Drop)]
+#[derive(Clone, Copy)]
 pub enum RadiusReported {
     Radius(Millimetres),
     Refused(Refusal),

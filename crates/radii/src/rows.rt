@@ -3,7 +3,7 @@ ghost use Rattle.std.specs.Prelude.{◌≡◌, [], ◌∷◌, ◌+◌, ◌*◌, 
 ghost use Rattle.radii.specs.Rows.{IsRow, entries_of, below, TellsBelow};
 
 // Eight entries of a table, one after the other.
-#[derive(Drop)]
+#[derive(Clone, Copy)]
 pub struct Row(
     pub u32,
     pub u32,

@@ -7,7 +7,7 @@ ghost use Rattle.radii.specs.Tables.{Halving, entries_in};
 use crate::rows;
 use crate::rows::Row;
 
-#[derive(Drop)]
+#[derive(Clone, Copy)]
 pub enum Table {
     Radii,
     Heights,

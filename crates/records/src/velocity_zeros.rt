@@ -8,7 +8,7 @@ use layout::VelocityKind;
 use quantities::VelocityQuantities;
 
 // Whether a kind uses what not every velocity has.
-#[derive(Drop)]
+#[derive(Clone, Copy)]
 pub struct MotionUses {
     pub vertical_speed: bool,
     pub uncertainty: bool,

@@ -10,14 +10,14 @@ use ground::SignedMillimetres;
 use requests::Altitude;
 use text::{Signed32, Signed64, Unsigned32};
 
-#[derive(Drop)]
+#[derive(Clone, Copy)]
 pub enum AltitudeRead {
     Read(Altitude),
     Unreadable,
 }
 
 // A number of 32 bits without a sign, where there is one.
-#[derive(Drop)]
+#[derive(Clone, Copy)]
 pub enum Amount {
     Number(u32),
     Absent,

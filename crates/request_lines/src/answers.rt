@@ -5,7 +5,7 @@ ghost use Rattle.request_lines.specs.Answers.{choice_text, said_text};
 
 use ground::Outcome;
 
-#[derive(Drop)]
+#[derive(Clone, Copy)]
 pub enum Answer {
     Unreadable,
     Chosen(Outcome),

@@ -16,7 +16,7 @@ const MINUS: u8 = 2;
 pub const DASH: u8 = 3;
 
 // The mark and the size of a field's number, and the place after the field.
-#[derive(Drop)]
+#[derive(Clone, Copy)]
 pub struct Entry {
     pub mark: u8,
     pub size: u64,

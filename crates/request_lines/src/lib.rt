@@ -14,7 +14,7 @@ pub use request::{Asked, HorizontalRead, horizontal_of, request_in};
 use text::Unsigned32;
 
 // What a line that should be the receiver's list writes.
-#[derive(Drop)]
+#[derive(Clone, Copy)]
 pub enum ListRead {
     Shapes(u16),
     NoList,

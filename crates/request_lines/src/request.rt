@@ -12,25 +12,25 @@ use ground::{Confidence, Millidegrees, Millimetres, Nanodegrees};
 use requests::{AltitudeUncertainty, Horizontal, Request};
 use text::Signed64;
 
-#[derive(Drop)]
+#[derive(Clone, Copy)]
 pub enum Asked {
     Request(Request),
     Unreadable,
 }
 
-#[derive(Drop)]
+#[derive(Clone, Copy)]
 pub enum HorizontalRead {
     Read(Horizontal),
     Unreadable,
 }
 
-#[derive(Drop)]
+#[derive(Clone, Copy)]
 pub enum UncertaintyRead {
     Read(AltitudeUncertainty),
     Unreadable,
 }
 
-#[derive(Drop)]
+#[derive(Clone, Copy)]
 pub enum ConfidenceRead {
     Read(Confidence),
     Unreadable,

@@ -4,13 +4,13 @@ use ground::{
     OrientationCode, UncertaintyCode,
 };
 
-#[derive(Drop)]
+#[derive(Clone, Copy)]
 pub struct AltitudeWanted {
     pub asked: bool,
     pub code: AltitudeCode,
 }
 
-#[derive(Drop)]
+#[derive(Clone, Copy)]
 pub struct AreaWanted {
     pub asked: bool,
     pub semi_major: UncertaintyCode,
@@ -18,13 +18,13 @@ pub struct AreaWanted {
     pub orientation: OrientationCode,
 }
 
-#[derive(Drop)]
+#[derive(Clone, Copy)]
 pub struct AltitudeUncertaintyWanted {
     pub asked: bool,
     pub code: AltitudeUncertaintyCode,
 }
 
-#[derive(Drop)]
+#[derive(Clone, Copy)]
 pub struct Wanted {
     pub latitude: LatitudeCode,
     pub longitude: LongitudeCode,

@@ -7,14 +7,14 @@ mod codes;
 pub use codes::{AltitudeUncertaintyWanted, AltitudeWanted, AreaWanted, Wanted};
 use ground::{Confidence, Millidegrees, Millimetres, Nanodegrees, SignedMillimetres};
 
-#[derive(Drop)]
+#[derive(Clone, Copy)]
 pub enum Altitude {
     Asked(SignedMillimetres),
     NotAsked,
 }
 
 // A horizontal uncertainty. The two axes of a circle are its radius.
-#[derive(Drop)]
+#[derive(Clone, Copy)]
 pub enum Horizontal {
     Circle(Millimetres),
     Ellipse {
@@ -25,13 +25,13 @@ pub enum Horizontal {
     NotAsked,
 }
 
-#[derive(Drop)]
+#[derive(Clone, Copy)]
 pub enum AltitudeUncertainty {
     Asked(Millimetres),
     NotAsked,
 }
 
-#[derive(Drop)]
+#[derive(Clone, Copy)]
 pub struct Request {
     pub latitude: Nanodegrees,
     pub longitude: Nanodegrees,

@@ -8,7 +8,7 @@ use ground::{
     UncertaintySpeedCode, VerticalSpeedCode, Whole,
 };
 
-#[derive(Drop)]
+#[derive(Clone, Copy)]
 pub enum UncertaintySpeedCoded {
     Code(UncertaintySpeedCode),
     Refused(Refusal),

@@ -7,14 +7,14 @@ use Rattle.streaming.specs.declared.output.Output.{Output}
 use Rattle.streaming.specs.declared.output.Run.{Run}
 use Rattle.streaming.specs.Sources.{octets_from, Goes, here}
 use Rattle.streaming.specs.Lines.{lines_of}
-use Rattle.streaming.specs.Inputs.{no_input, SoundInput, Mark, newline, LineTaken, NoLine, nothing, most_octets, HeldLine}
+use Rattle.streaming.specs.Inputs.{no_input, SoundInput, Mark, newline, LineTaken, NoLine, nothing, most_octets}
 use Rattle.streaming.specs.Inputs as inputs
-use Rattle.streaming.specs.Outputs.{no_output, SoundOutput, PutOut, Written, NoneOfRun, NextOfRun, WritesEnd}
+use Rattle.streaming.specs.Outputs.{no_output, SoundOutput, PutOut, Kept, NoneOfRun, NextOfRun, WritesEnd}
 use Rattle.streaming.specs.Outputs as outputs
 use Rattle.streaming.specs.Answering.{LinesRead, Taken, Stops, closed, over, many, failed, Answers, none, more, AnswerPut, Answering, Stopped, Ran}
 use Rattle.streaming.proofs.SourceLaws.{goes_parts, goes_over, goes_then}
 use Rattle.streaming.proofs.LineLaws.{line_first, line-last, no_lines, few-lines}
-use Rattle.streaming.proofs.OutputLaws.{put-nothing, put_written, written-sound}
+use Rattle.streaming.proofs.OutputLaws.{put-nothing, put-kept}
 
 -- ---- the lines
 
@@ -121,33 +121,14 @@ pub record Empty (out : List ℕ) (o : Output) : Type 0 where
 pub empty-output : {o : Output} (out : List ℕ) → o ≡ no_output → Empty out o
 empty-output out e = subst (Empty out) (sym e) (record { sound = record { answers = omega arith }; is_open = refl; none = refl; put = put-nothing out })
 
--- nothing is written, which changes nothing
-pub still-empty : {out : List ℕ} {o r : Output} → Empty out o → Written out o r → r.sink.closed ≡ false → Empty out r
-still-empty e w is-on = record { sound = written-sound w; is_open = is-on; none = w.same_count ∙ e.none; put = put_written e.is_open e.put w }
+-- it may be written, which changes nothing
+pub still-empty : {out : List ℕ} {o r : Output} → Empty out o → Kept out o r → r.answered ≡ o.answered → SoundOutput r → r.sink.closed ≡ false → Empty out r
+still-empty e kept count sound is-on = record { sound = sound; is_open = is-on; none = count ∙ e.none; put = put-kept e.is_open e.put kept }
 
 -- a run that goes on
 pub record GoesOn (Answer : ℕ → List ℕ → List ℕ → Type 0) (first : List (List ℕ)) (start block out : List ℕ) (i : Input) (o : Output) : Type 0 where
   pub at : Answering Answer first start block out i o
   pub whole : at.asked.dropped ≡ []
-
--- lines can be taken, and answers put
-pub record Fit (i : Input) (o : Output) : Type 0 where
-  pub input : SoundInput i
-  pub output : SoundOutput o
-  pub is_open : o.sink.closed ≡ false
-
-pub fit-held : {block : List ℕ} {i j : Input} {o : Output} → Fit i o → HeldLine block i j → Fit j o
-fit-held f h = record { input = h.sound; output = f.output; is_open = f.is_open }
-
-pub fit_next : {block after out : List ℕ} {s r : Run} → NextOfRun block after out s r → r.input.ready ≡ true → Fit r.input r.output
-fit_next n e = record { input = n.sound; output = written-sound n.written; is_open = n.is_open e }
-
--- a line is taken that is not yet answered
-pub record Due (Answer : ℕ → List ℕ → List ℕ → Type 0) (first : List (List ℕ)) (start block out : List ℕ) (i : Input) (o : Output) : Type 0 where
-  pub before : List ℕ
-  pub from : Input
-  pub goes : GoesOn Answer first start before out from o
-  pub line : LineTaken before block from i
 
 module _ {Answer : ℕ → List ℕ → List ℕ → Type 0} where
   answers-more : {n : ℕ} {lines : List (List ℕ)} {text line t : List ℕ} → Answers Answer n lines text → Answer (n + length lines + 1) line t
@@ -166,41 +147,27 @@ module _ {Answer : ℕ → List ℕ → List ℕ → Type 0} where
     whole = t.whole;
   }
 
-  -- an answer more
-  pub one_more : {first : List (List ℕ)} {start block out out' : List ℕ} {i : Input} {o r : Output} → Due Answer first start block out i o → AnswerPut Answer block out out' i o r → GoesOn Answer first start block out' i r
-  unfolding line_read
-  one_more {first} {block = block} {i = i} d a =
-      let at = d.goes.at in
-      let line = d.line.line in
-      record {
-        at = record {
-          asked = line_read at.asked d.goes.whole block i d.line;
-          lines = at.lines ++ line ∷ [];
-          text = at.text ++ a.text;
-          these = ap (λ (l : List (List ℕ)). l ++ line ∷ []) at.these ∙ append_assoc first at.lines (line ∷ []);
-          answers = answers-more at.answers (subst (λ (n : ℕ). Answer (n + 1) line a.text) (at.count ∙ omega arith) (a.answer line d.line.is));
-          count = a.count ∙ omega (arith, at.count, length-append at.lines (line ∷ []));
-          put = a.put at.text at.put;
-        };
-        whole = refl;
-      }
-
   module _ {first : List (List ℕ)} {start block out : List ℕ} {i : Input} {o : Output} (g : GoesOn Answer first start block out i o) where
-    -- the line that is held; where there is none, nothing is taken
-    pub due-held : {j : Input} → HeldLine block i j → j.ready ≡ true → Due Answer first start block out j o
-    due-held h e = record { before = block; from = i; goes = g; line = h.line e }
-
-    pub none-held-yet : {j : Input} → HeldLine block i j → j.ready ≡ false → GoesOn Answer first start block out j o
-    unfolding lines-as
-    none-held-yet h e = record {
-      at = record { asked = lines-as g.at.asked refl h.same_source (h.same_taken e); lines = g.at.lines; text = g.at.text; these = g.at.these; answers = g.at.answers; count = g.at.count; put = g.at.put };
-      whole = g.whole;
+    -- an answer more
+    pub one_more : {after out' : List ℕ} {j : Input} {r : Output} → LineTaken block after i j → AnswerPut Answer after out out' j o r → GoesOn Answer first start after out' j r
+    unfolding line_read
+    one_more {after} {out'} {j} {r} t a = record {
+      at = record {
+        asked = line_read g.at.asked g.whole after j t;
+        lines = g.at.lines ++ t.line ∷ [];
+        text = g.at.text ++ a.text;
+        these = ap (λ (l : List (List ℕ)). l ++ t.line ∷ []) g.at.these ∙ append_assoc first g.at.lines (t.line ∷ []);
+        answers = answers-more g.at.answers (subst (λ (n : ℕ). Answer (n + 1) t.line a.text) (g.at.count ∙ omega arith) (a.answer t.line t.is));
+        count = a.count ∙ omega (arith, g.at.count, length-append g.at.lines (t.line ∷ []));
+        put = a.put g.at.text g.at.put;
+      };
+      whole = refl;
     }
 
-    -- the answers are written
-    goes-written : {r : Output} → o.sink.closed ≡ false → Written out o r → GoesOn Answer first start block out i r
-    goes-written {r} is-on w = record {
-      at = record { asked = g.at.asked; lines = g.at.lines; text = g.at.text; these = g.at.these; answers = g.at.answers; count = w.same_count ∙ g.at.count; put = put_written is-on g.at.put w };
+    -- the answers are as they were, or they are written
+    pub goes_kept : {r : Output} → o.sink.closed ≡ false → r.answered ≡ o.answered → Kept out o r → GoesOn Answer first start block out i r
+    goes_kept {r} is-on count kept = record {
+      at = record { asked = g.at.asked; lines = g.at.lines; text = g.at.text; these = g.at.these; answers = g.at.answers; count = count ∙ g.at.count; put = put-kept is-on g.at.put kept };
       whole = g.whole;
     }
 
@@ -226,28 +193,22 @@ module _ {Answer : ℕ → List ℕ → List ℕ → Type 0} where
       sound = sound;
     }
 
-  -- a run that was to go on to the next line
-  module _ {first : List (List ℕ)} {start block after out : List ℕ} {s r : Run} (g : GoesOn Answer first start block out s.input s.output) (is-on : s.output.sink.closed ≡ false) (n : NextOfRun block after out s r) where
-    kept : GoesOn Answer first start block out s.input r.output
-    kept = goes-written g is-on n.written
+  -- a run without a next line
+  pub none-of-run : {first : List (List ℕ)} {start block after out : List ℕ} {s r : Run} → GoesOn Answer first start block out s.input s.output → s.output.sink.closed ≡ false
+      → NextOfRun block after out s r → r.input.ready ≡ false → Stopped Answer first start after out r
+  unfolding lines-as
+  none-of-run {first} {start} {block} {after} {out} {s} {r} g is-on n e = by (n.none e)
+    where
+      kept : GoesOn Answer first start block out s.input r.output
+      kept = goes_kept g is-on n.same_count n.kept
 
-    pub due-next : r.input.ready ≡ true → Due Answer first start after out r.input r.output
-    due-next e = record { before = block; from = s.input; goes = kept; line = n.line e }
-
-    pub none-of-run : r.input.ready ≡ false → Stopped Answer first start after out r
-    unfolding lines-as
-    none-of-run e = by (n.none e)
-      where
-        sound : SoundOutput r.output
-        sound = written-sound n.written
-
-        by : NoneOfRun block after s.input r → Stopped Answer first start after out r
-        by (outputs.none l) = none_left kept sound l
-        by (outputs.shut c b x y) = record {
-          at = record { asked = lines-as kept.at.asked b x y; lines = kept.at.lines; text = kept.at.text; these = kept.at.these; answers = kept.at.answers; count = kept.at.count; put = kept.at.put };
-          stops = closed c;
-          sound = sound;
-        }
+      by : NoneOfRun block after s.input r → Stopped Answer first start after out r
+      by (outputs.none l) = none_left kept n.sound_output l
+      by (outputs.shut c b x y) = record {
+        at = record { asked = lines-as kept.at.asked b x y; lines = kept.at.lines; text = kept.at.text; these = kept.at.these; answers = kept.at.answers; count = kept.at.count; put = kept.at.put };
+        stops = closed c;
+        sound = n.sound_output;
+      }
 
   -- the last line
   pub ran : {first : List (List ℕ)} {start block out out' : List ℕ} {s r : Run} → Stopped Answer first start block out s → WritesEnd out out' s r → Ran Answer first start block out' r

@@ -1,14 +1,11 @@
 -- The text goes on, and what was put of it is written.
-use Rattle.std.proofs.Common.{◌≡◌, ℕ, ◌+◌, ◌%◌, ◌^◌, ◌≤◌, Bool, true, false, T, List, [], ◌++◌, length, take, sym, refl, ap, ◌∙◌, subst, append_assoc, append-nil, arith, length-append}
+use Rattle.std.proofs.Common.{◌≡◌, ℕ, ◌+◌, ◌%◌, ◌^◌, ◌≤◌, Bool, true, false, T, List, [], ◌++◌, length, take, sym, refl, ap, ◌∙◌, subst, append_assoc, append-nil, length-append}
 use native.Mathlib.Nat.{mod-add-mod}
 use Rattle.text.specs.AnswerLines.{end_text}
 use Rattle.text.specs.Text.{Puts}
 use Rattle.text.proofs.OutputLaws.{text-so-far}
 use Rattle.streaming.specs.declared.output.Output.{Output}
-use Rattle.streaming.specs.Outputs.{no_output, SoundOutput, PutOut, Written, Kept, same, written}
-
-pub written-sound : {out : List ℕ} {o r : Output} → Written out o r → SoundOutput r
-written-sound w = record { answers = omega (arith, w.none_left) }
+use Rattle.streaming.specs.Outputs.{no_output, PutOut, Written, Kept, same, written}
 
 pub put-nothing : (out : List ℕ) → PutOut [] out no_output
 put-nothing out = record { written = []; left = []; parts = refl; size = refl; kept = λ _. refl }

@@ -1,12 +1,12 @@
 -- The search for the end of a line: what was dropped of it, and what is held.
-use Rattle.std.proofs.Common.{◌≡◌, ℕ, ◌+◌, ◌-◌, ◌<◌, ◌≤◌, Bool, true, false, T, List, [], ◌∷◌, ◌++◌, length, get_or, take, drop, sym, refl, ap, ◌∙◌, subst, append_assoc, append-nil, arith, length-append, length-drop, length-take-le, get_or-drop, drop-cons, get_or-take}
+use Rattle.std.proofs.Common.{◌≡◌, ℕ, ◌+◌, ◌-◌, ◌<◌, ◌≤◌, Bool, true, false, T, List, [], ◌∷◌, ◌++◌, length, get_or, take, drop, sym, refl, ap, ◌∙◌, subst, append-nil, arith, length-append, length-drop, length-take-le, get_or-drop, drop-cons, get_or-take}
 use Rattle.text.specs.Marks.{FirstMark}
 use Rattle.streaming.specs.declared.input.Input.{Input}
 use Rattle.streaming.specs.Sources.{octets_from, Goes, here, reads}
-use Rattle.streaming.specs.Lines.{lines_of, NoNewline}
+use Rattle.streaming.specs.Lines.{NoNewline}
 use Rattle.streaming.specs.Inputs.{SoundInput, longest_line, line_in, Line, newline, over, LineTaken, NoLine, nothing, many, failed, HeldLine, NextLine, Started, Cut, LastLine, line, none, Drops, same, dropped, Shortened, Refilled}
-use Rattle.streaming.proofs.SourceLaws.{take-to, goes_parts}
-use Rattle.streaming.proofs.LineLaws.{line_first, no-newlines}
+use Rattle.streaming.proofs.SourceLaws.{take-to}
+use Rattle.streaming.proofs.LineLaws.{no-newlines}
 
 never : {A : Type 0} {b : Bool} → b ≡ true → b ≡ false → A
 never p q = absurd (subst T (sym p ∙ q) tt)
@@ -42,17 +42,19 @@ seek-start short = record {
 }
 
 -- the search starts where the line before left off
-module _ {start block : List ℕ} {before i r : Input} (s : Started before i) where
-  line_from : LineTaken start block i r → LineTaken start block before r
-  line_from l = record { read = l.read; line = l.line; mark = l.mark; goes = rw (← s.same_source, ← s.same_taken) l.goes; whole = l.whole; ended = l.ended; is = l.is }
+pub next-same : {start block : List ℕ} {before i r : Input} → i.source ≡ before.source → i.taken ≡ before.taken → NextLine start block i r → NextLine start block before r
+next-same {start} {block} {before} {i} {r} same_source same_taken n = record { sound = n.sound; line = λ e. line_from (n.line e); none = λ e. none_from (n.none e) }
+  where
+    line_from : LineTaken start block i r → LineTaken start block before r
+    line_from l = record { read = l.read; line = l.line; mark = l.mark; goes = rw (← same_source, ← same_taken) l.goes; whole = l.whole; ended = l.ended; is = l.is }
 
-  none_from : NoLine start block i r → NoLine start block before r
-  none_from (nothing {read} g o e) = nothing {read = read} (rw (← s.same_source, ← s.same_taken) g) o e
-  none_from (many {read} {taken} g h) = many {read = read} {taken = taken} (rw (← s.same_source, ← s.same_taken) g) h
-  none_from (failed {read} {taken} g h) = failed {read = read} {taken = taken} (rw (← s.same_source, ← s.same_taken) g) h
+    none_from : NoLine start block i r → NoLine start block before r
+    none_from (nothing {read} g o e) = nothing {read = read} (rw (← same_source, ← same_taken) g) o e
+    none_from (many {read} {taken} g h) = many {read = read} {taken = taken} (rw (← same_source, ← same_taken) g) h
+    none_from (failed {read} {taken} g h) = failed {read = read} {taken = taken} (rw (← same_source, ← same_taken) g) h
 
-  pub next-from : NextLine start block i r → NextLine start block before r
-  next-from n = record { sound = n.sound; line = λ e. line_from (n.line e); none = λ e. none_from (n.none e) }
+pub next-from : {start block : List ℕ} {before i r : Input} → Started before i → NextLine start block i r → NextLine start block before r
+next-from s = next-same s.same_source s.same_taken
 
 -- the octets from `taken` up to `end`
 module _ {start block : List ℕ} {before i : Input} {left : ℕ} (s : Seeking start block before i left) (end : ℕ)
@@ -183,72 +185,12 @@ next-many s sound not_ready e = record { sound = sound; line = λ x. never x not
 pub next-failed : {start block : List ℕ} {before i : Input} {left : ℕ} → Seeking start block before i left → SoundInput i → i.ready ≡ false → i.source.failed ≡ true → NextLine start block before i
 next-failed s sound not_ready e = record { sound = sound; line = λ x. never x not_ready; none = λ _. failed s.goes e }
 
--- what is held has no newline
-held-clean : {start block : List ℕ} {before i : Input} {left end : ℕ} → Seeking start block before i left → SoundInput i → i.source.fill ≤ length block
-    → FirstMark 10 (take i.source.fill block) i.taken end → i.source.fill ≤ end → NoNewline (octets_from block i.taken i.source)
-held-clean {block = block} {i = i} {end = end} s sound fits f all =
-    let e : end ≡ i.source.fill = omega (arith, within block i fits f) in
-    part-clean s i.source.fill sound.order (omega arith) fits (rw e at (none_before block i fits f))
-
 -- the line that is held, and none
-pub held_found : {block : List ℕ} {i m r : Input} {end : ℕ} → Started i m → m.source.fill ≤ length block → FirstMark 10 (take m.source.fill block) m.taken end → end < m.source.fill
-    → Cut m end (end + 1) r → HeldLine block i r
-unfolding line_from line-found seek-start
-held_found {block} {i} {m} {r} {end} s fits f h c = record {
-  sound = c.sound;
-  line = λ _. line_from s (line-found (seek-start s.not_long) end f.after (within block m fits f) fits (none_before block m fits f) h (found-there block m fits f h) c);
-  here = λ _. (refl, refl);
-  none = λ x. never c.is_ready x;
-  same_source = c.same_source ∙ s.same_source;
-  same_taken = λ x. never c.is_ready x;
-}
+pub held_found : {block : List ℕ} {i r : Input} → NextLine block block i r → r.ready ≡ true → r.source ≡ i.source → HeldLine block i r
+held_found n e s = record { sound = n.sound; line = n.line; same_source = s; same_taken = λ x. never e x }
 
-pub held_none : {block : List ℕ} {i r : Input} {end : ℕ} → Started i r → r.source.fill ≤ length block → FirstMark 10 (take r.source.fill block) r.taken end → r.source.fill ≤ end → HeldLine block i r
-held_none s fits f all = record {
-  sound = s.sound;
-  line = λ x. never x s.not_ready;
-  here = λ x. never x s.not_ready;
-  none = λ _. rw (s.same_source, s.same_taken) at (held-clean (seek-start s.not_long) s.sound fits f all);
-  same_source = s.same_source;
-  same_taken = λ _. s.same_taken;
-}
-
--- ONE ANSWER of held_line: whether there is a line, which one, and which octets are left
-newline-there : (l s : List ℕ) → get_or (l ++ 10 ∷ s) (length l) 0 ≡ 10
-newline-there [] s = refl
-newline-there (b ∷ l) s = newline-there l s
-
-module _ {block : List ℕ} {i r : Input} (a : HeldLine block i r) (d : r.ready ≡ true) where
-  held-parts : octets_from block i.taken i.source ≡ (a.line d).line ++ 10 ∷ octets_from block r.taken r.source
-  held-parts =
-      let rest = octets_from block r.taken r.source in
-      sym (append-nil (octets_from block i.taken i.source))
-      ∙ ap (λ (l : List ℕ). octets_from block i.taken i.source ++ l) (sym (a.here d).0)
-      ∙ goes_parts (a.line d).goes
-      ∙ ap (λ (m : List ℕ). ((a.line d).line ++ m) ++ rest) (a.here d).1
-      ∙ append_assoc (a.line d).line (10 ∷ []) rest
-
-  some-held : NoNewline (octets_from block i.taken i.source) → ⊥
-  some-held n =
-      let line = (a.line d).line in
-      let rest = octets_from block r.taken r.source in
-      n.none (length line) (omega (arith, ap length held-parts, length-append line (10 ∷ rest))) (rw held-parts (newline-there line rest))
-
-module _ {block : List ℕ} {i r s : Input} (a : HeldLine block i r) (b : HeldLine block i s) where
-  pub held-ready-one : r.ready ≡ s.ready
-  held-ready-one = by r.ready s.ready refl refl
-    where
-      by : (x y : Bool) → r.ready ≡ x → s.ready ≡ y → x ≡ y
-      by true true d e = refl
-      by true false d e = absurd (some-held a d (b.none e))
-      by false true d e = absurd (some-held b e (a.none d))
-      by false false d e = refl
-
-  pub held-line-one : (d : r.ready ≡ true) (e : s.ready ≡ true) → (a.line d).line ≡ (b.line e).line
-  held-line-one d e =
-      ap (λ (l : List (List ℕ)). get_or l 0 [])
-      (sym (line_first (a.line d).line (octets_from block r.taken r.source) (a.line d).whole) ∙ ap lines_of (sym (held-parts a d) ∙ held-parts b e)
-      ∙ line_first (b.line e).line (octets_from block s.taken s.source) (b.line e).whole)
+pub held_none : {block : List ℕ} {i r : Input} → Started i r → HeldLine block i r
+held_none s = record { sound = s.sound; line = λ x. never x s.not_ready; same_source = s.same_source; same_taken = λ _. s.same_taken }
 
 -- more is read
 seek-more : {start block after : List ℕ} {before i r : Input} {left : ℕ} → Seeking start block before i left → 0 < left → i.source.over ≡ false → Refilled block after i r → Seeking start after before r (left - 1)
@@ -270,8 +212,13 @@ seek-more {start} {block} {after} {before} {i} {r} {left} s h o f =
 pub seek-turn : {start block after : List ℕ} {before i m r : Input} {left end : ℕ} → Seeking start block before i left → 0 < left → SoundInput i → i.source.fill ≤ length block
     → FirstMark 10 (take i.source.fill block) i.taken end → i.source.fill ≤ end → i.source.over ≡ false → Shortened i m → Refilled block after m r → Seeking start after before r (left - 1)
 seek-turn {start} {block} {after} {before} {i} {m} {r} {left} {end} s h sound fits f all o short more =
-    seek-more (seek-shorter s fits (held-clean s sound fits f all) sound short.drops) h (same_over short.drops) more
+    let e : end ≡ i.source.fill = omega (arith, within block i fits f) in
+    let clean : NoNewline (octets_from block i.taken i.source) = whole e in
+    seek-more (seek-shorter s fits clean sound short.drops) h (same_over short.drops) more
   where
+    whole : end ≡ i.source.fill → NoNewline (octets_from block i.taken i.source)
+    whole e = part-clean s i.source.fill sound.order (omega arith) fits (rw e at (none_before block i fits f))
+
     same_over : Drops i m → m.source.over ≡ false
     same_over (same x) = rw x o
     same_over (dropped a b c d) = rw b o

@@ -1,7 +1,7 @@
 -- What is known of the line that is held, and of the octets around it.
 use Rattle.std.specs.Prelude.{◌≡◌, ℕ, ◌+◌, ◌-◌, ◌<◌, ◌≤◌, Bool, true, false, List, [], ◌∷◌, ◌++◌, length, take, drop}
 use Rattle.streaming.specs.declared.input.Input.{Input}
-use Rattle.streaming.specs.Sources.{unread_yet, octets_from, ReadMore, Goes}
+use Rattle.streaming.specs.Sources.{unread_yet, ReadMore, Goes}
 use Rattle.streaming.specs.Lines.{NoNewline}
 
 -- nothing is read, and there is no line
@@ -56,12 +56,10 @@ pub data NoLine (before block : List ℕ) (i r : Input) : Type 0 where
   many : {read taken : List ℕ} → Goes before i.taken i.source block r.taken r.source read taken → most_octets ≤ length read → NoLine before block i r
   failed : {read taken : List ℕ} → Goes before i.taken i.source block r.taken r.source read taken → r.source.failed ≡ true → NoLine before block i r
 
--- what held_line hands back: the line up to the first newline that is held; or what is held has none, and nothing is taken. It reads nothing
+-- what held_line hands back: the next line, or nothing is taken; it reads nothing
 pub record HeldLine (block : List ℕ) (i r : Input) : Type 0 where
   pub sound : SoundInput r
   pub line : r.ready ≡ true → LineTaken block block i r
-  pub here : (e : r.ready ≡ true) → ((line e).read ≡ []) × ((line e).mark ≡ 10 ∷ [])
-  pub none : r.ready ≡ false → NoNewline (octets_from block i.taken i.source)
   pub same_source : r.source ≡ i.source
   pub same_taken : r.ready ≡ false → r.taken ≡ i.taken
 

@@ -63,10 +63,18 @@ pub data NoneOfRun (before block : List ℕ) (i : Input) (r : Run) : Type 0 wher
   shut : r.output.sink.closed ≡ true → block ≡ before → r.input.source ≡ i.source → r.input.taken ≡ i.taken → NoneOfRun before block i r
   none : NoLine before block i r.input → NoneOfRun before block i r
 
--- WHAT next_line HANDS BACK: the next line, or none. NO ANSWER WAITS for what is not there yet: all are written
+-- NO ANSWER WAITS for what is not there yet: where something was read, none is left to be written
+pub data Prompt (before block : List ℕ) (i : Input) (r : Run) : Type 0 where
+  unread : block ≡ before → r.input.source ≡ i.source → Prompt before block i r
+  answered : r.output.put ≡ 0 → Prompt before block i r
+
+-- WHAT next_line HANDS BACK: the next line, or none. The answers are as they were, or they are written
 pub record NextOfRun (before block out : List ℕ) (s r : Run) : Type 0 where
   pub sound : SoundInput r.input
-  pub written : Written out s.output r.output
+  pub sound_output : SoundOutput r.output
+  pub same_count : r.output.answered ≡ s.output.answered
+  pub kept : Kept out s.output r.output
+  pub prompt : Prompt before block s.input r
   pub line : r.input.ready ≡ true → LineTaken before block s.input r.input
   pub is_open : r.input.ready ≡ true → r.output.sink.closed ≡ false
   pub none : r.input.ready ≡ false → NoneOfRun before block s.input r

@@ -11,7 +11,7 @@ const LONGEST_LINE: usize = 4096;
 // No line takes so many reads.
 const MOST_READS: u64 = 4611686018427387905;
 
-#[derive(Drop)]
+#[derive(Clone, Copy)]
 pub struct Input {
     // what was read; the octets of the block from `taken` on are not yet taken
     pub source: Source,
@@ -78,7 +78,7 @@ pub fn read_line(block: &mut [u8; 65536], before: Input) -> Input
 }
 
 // No line is ready, and nothing of the next is dropped.
-pub fn started(before: Input) -> Input
+fn started(before: Input) -> Input
     requires { SoundInput before }
     ensures { Started before result }
 {

@@ -9,7 +9,7 @@ mod output;
 mod sink;
 mod source;
 
-pub use input::{Input, held_line, no_input, read_line};
+pub use input::{Input, no_input, read_line};
 pub use output::{Output, Run, make_room, next_line, no_output, write_end};
 pub use sink::{Sink, is_closed, unwritten, write_text};
 pub use source::{Source, filled, is_failed, is_over, read_more, unread};

@@ -14,7 +14,7 @@ const ROOM: usize = 65536;
 // No last line takes more octets.
 const LONGEST_END: usize = 46;
 
-#[derive(Drop)]
+#[derive(Clone, Copy)]
 pub struct Output {
     // octets of answers that are not yet written
     pub put: usize,
@@ -25,7 +25,7 @@ pub struct Output {
 }
 
 // A program that answers lines, where it stands.
-#[derive(Drop)]
+#[derive(Clone, Copy)]
 pub struct Run {
     pub input: Input,
     pub output: Output,
@@ -55,15 +55,19 @@ pub fn make_room(out: &[u8; 65536], output: Output, longest: usize) -> Output
     output
 }
 
-// Goes on to the next line, where none is held. The answers are written before it, so that none waits for what is not there yet.
+// Goes on to the next line. Before anything is read the answers are written, so that none waits for what is not there yet.
 pub fn next_line(out: &[u8; 65536], block: &mut [u8; 65536], before: Run) -> Run
     requires sound_input { SoundInput before.input }
     requires sound_output { SoundOutput before.output }
     requires closed_value { before.output.sink.closed ≡ false }
     ensures { NextOfRun block.old block.new out.now before result }
 {
-    let input = input::started(before.input);
-    let output = written(out, before.output);
+    let output = before.output;
+    let input = input::held_line(block, before.input);
+    if input.ready {
+        return Run { input, output };
+    }
+    let output = written(out, output);
     if sink::is_closed(output.sink) {
         return Run { input, output };
     }

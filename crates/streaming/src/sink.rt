@@ -4,7 +4,7 @@ ghost use Rattle.streaming.specs.Sinks.{unwritten_yet, Wrote, WroteSome};
 
 use crate::calls;
 
-#[derive(Drop)]
+#[derive(Clone, Copy)]
 pub struct Sink {
     // how many octets were written, modulo 2^64
     written: u64,
@@ -13,7 +13,7 @@ pub struct Sink {
 }
 
 // How much of a text is written, or that a write failed.
-#[derive(Drop)]
+#[derive(Clone, Copy)]
 enum Progress {
     Done(usize),
     Lost,

@@ -5,7 +5,7 @@ ghost use Rattle.streaming.specs.Sources.{unread_yet, no_octets, ReadBehind, Rea
 
 use crate::{block, calls};
 
-#[derive(Drop)]
+#[derive(Clone, Copy)]
 pub struct Source {
     // the octets of the buffer before `fill` are read
     fill: usize,
@@ -16,7 +16,7 @@ pub struct Source {
 }
 
 // What a read brought.
-#[derive(Drop)]
+#[derive(Clone, Copy)]
 struct Got {
     octets: usize,
     failed: bool,

@@ -4,14 +4,14 @@ ghost use Rattle.text.specs.Numerals.{digits_of, numeral_of, DigitsFrom};
 
 use ground::Parts;
 
-#[derive(Drop)]
+#[derive(Clone, Copy)]
 pub enum Numeral {
     Number(Parts),
     Nothing,
 }
 
 // Digits in a row: the number that they write, at most the largest of 64 bits, and the place after them.
-#[derive(Drop)]
+#[derive(Clone, Copy)]
 pub struct Digits {
     pub size: u64,
     pub end: usize,

@@ -4,7 +4,7 @@ ghost use Rattle.text.specs.AnswerLines.{line_of_code, line_of_quantity};
 
 use ground::{SaidCode, SaidQuantity, Whole};
 
-#[derive(Drop)]
+#[derive(Clone, Copy)]
 pub enum SaidLine {
     Unreadable,
     // document 01's number

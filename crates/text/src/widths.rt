@@ -3,26 +3,26 @@ ghost use Rattle.text.specs.Widths.{AsSigned64, AsSigned32, AsUnsigned32, AsSize
 
 use crate::numeral::Numeral;
 
-#[derive(Drop)]
+#[derive(Clone, Copy)]
 pub enum Signed64 {
     Number(i64),
     Outside,
 }
 
-#[derive(Drop)]
+#[derive(Clone, Copy)]
 pub enum Signed32 {
     Number(i32),
     Outside,
 }
 
-#[derive(Drop)]
+#[derive(Clone, Copy)]
 pub enum Unsigned32 {
     Number(u32),
     Outside,
 }
 
 // The size of a code that has no sign, at most the largest that 64 bits hold.
-#[derive(Drop)]
+#[derive(Clone, Copy)]
 pub enum Size {
     Code(u64),
     Below,

@@ -8,7 +8,7 @@ use text::Signed64;
 // No case has more numbers.
 const MOST: usize = 128;
 
-#[derive(Drop)]
+#[derive(Clone, Copy)]
 pub struct Given {
     pub numbers: [i64; 128],
     pub count: usize,

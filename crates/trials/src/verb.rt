@@ -1,5 +1,5 @@
 // The calls of the library, by their names in a line.
-#[derive(Drop)]
+#[derive(Clone, Copy)]
 pub enum Verb {
     ReadShape,
     ReadVelocity,

@@ -2,7 +2,7 @@
 use Prim.Native.Nat.{ℕ}
 use mathlib.Core.Path.{sym, subst, ◌∙◌}
 use mathlib.Core.List.{[]}
-use Rattle.streaming.proofs.AnswerLaws.{fit_next, none-taken, line_taken, empty-output, still-empty, begun, none-of-run}
+use Rattle.streaming.proofs.AnswerLaws.{none-taken, line_taken, empty-output, still-empty, begun, none-of-run}
 use Rattle.chooser.specs.Choosing.{Heads, nothing, listed}
 use borrow.Author.Tests.{not-true, not-false}
 use borrow.Author.Rules.{rules}
@@ -23,21 +23,20 @@ returns c =
       list = 0;
       first = [];
       stopped = none-of-run (begun t e) e.is_open n (not-true _ c.if1.true);
-      heads = subst (Heads 0 []) (sym (n.written.same_count ∙ e.none)) nothing;
+      heads = subst (Heads 0 []) (sym (n.same_count ∙ e.none)) nothing;
     }
 
 answer-lines-requires : tie.Need-answer-lines-requires
 answer-lines-requires c κs =
     let n = c.before.before.before.before.before.before.before.before.next-line.ensures in
-    let f = fit_next n (not-false _ c.before.before.before.before.before.if1.false) in
-    (f.input, (f.output, f.is_open))
+    (n.sound, (n.sound_output, n.is_open (not-false _ c.before.before.before.before.before.if1.false)))
 
 returns-2 : tie.Need-returns-2
 returns-2 c =
     let n = c.before.before.before.before.before.before.before.before.before.next-line.ensures in
     let ready = not-false _ c.before.before.before.before.before.before.if1.false in
     let l = n.line ready in
-    let e = still-empty (empty-output _ c.before.before.before.before.before.before.before.before.before.before.before.before.no_output.ensures) n.written (n.is_open ready) in
+    let e = still-empty (empty-output _ c.before.before.before.before.before.before.before.before.before.before.before.before.no_output.ensures) n.kept n.same_count n.sound_output (n.is_open ready) in
     record {
       list = c.before.before.before.List-held.result;
       first = _;

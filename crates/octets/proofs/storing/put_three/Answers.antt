@@ -1,0 +1,20 @@
+-- Three octets set one after another.
+use borrow.Author.Rules.{rules}
+use Prim.Native.Nat.{◌+◌, suc}
+use mathlib.Core.Path.{◌≡◌}
+use native.Mathlib.Numerals.{add-one}
+use native.Mathlib.Omega.{arith}
+use lib.ListN.{length-set}
+use Rattle.octets.proofs.storing.put_three.Goals as goal
+
+pub bounds-out-at-2 : goal.bounds-out-at-2
+bounds-out-at-2 c = simp length-set (omega arith)
+
+pub bounds-out-at-3 : goal.bounds-out-at-3
+bounds-out-at-3 c = simp length-set (omega arith)
+
+pub returns : goal.returns
+returns c =
+    let at = c.args.at in
+    let e : at + 2 ≡ suc (suc at) = omega arith in
+    rw (e, add-one)

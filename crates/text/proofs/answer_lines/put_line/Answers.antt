@@ -1,0 +1,32 @@
+-- The number, a space, the answer and the newline, one after the other.
+use Rattle.std.proofs.Common.{arith, rules}
+use Rattle.text.proofs.OutputLaws.{decimal-most}
+use Rattle.text.specs.AnswerLines.{line_text}
+use Rattle.text.proofs.WithinLaws.{octet-within, decimal-within, after}
+use Rattle.text.proofs.answer_lines.put_line.Goals as goal
+
+pub put_decimal-space-requires : goal.put_decimal-space-requires
+put_decimal-space-requires c = omega (arith, decimal-most {n = c.args.number} (omega arith))
+
+pub put_byte-answer-requires : goal.put_byte-answer-requires
+put_byte-answer-requires c =
+    let number = decimal-within (omega arith) c.put_decimal-space.ensures in
+    omega (arith, number.within)
+
+pub put_said-end-requires : goal.put_said-end-requires
+put_said-end-requires c =
+    let number = decimal-within (omega arith) c.put_decimal-space.ensures in
+    omega (arith, number.within, c.put_byte-answer.ensures.place)
+
+pub put_byte-requires : goal.put_byte-requires
+put_byte-requires c =
+    let number = decimal-within (omega arith) c.put_decimal-space.ensures in
+    omega (arith, number.within, c.put_byte-answer.ensures.place, c.put_said-end.ensures.within)
+
+pub returns : goal.returns
+unfolding line_text
+returns c =
+    let number = decimal-within (omega arith) c.put_decimal-space.ensures in
+    let space = octet-within c.put_byte-answer.ensures in
+    let newline = octet-within c.put_byte.ensures in
+    after (after number (after space c.put_said-end.ensures)) newline

@@ -1,0 +1,13 @@
+-- At most eight digits, and eight after them.
+use Rattle.std.proofs.Common.{arith, rules}
+use Rattle.text.proofs.OutputLaws.{then, decimal-eights, eights-length}
+use Rattle.text.proofs.put_upper.Goals as goal
+
+pub put_medium-next-requires : goal.put_medium-next-requires
+put_medium-next-requires c = record { n_bound = omega arith; n_in_bounds = omega (arith, eights-length {n = c.args.n} (omega arith)) }
+
+pub put_eight-requires : goal.put_eight-requires
+put_eight-requires c = record { n_bound = omega arith; at_in_bounds = omega (arith, eights-length {n = c.args.n} (omega arith), c.put_medium-next.ensures.place, c.put_medium-next.auto.out) }
+
+pub returns : goal.returns
+returns c = rw (decimal-eights {n = c.args.n} (omega arith)) (then c.put_medium-next.ensures c.put_eight.ensures)
