@@ -1,13 +1,13 @@
 -- Whether each element passed is zero.
 use Prim.Native.Nat.{ℕ, ◌-◌, ◌≤◌, ◌<◌}
 use mathlib.Core.Path.{◌≡◌}
-use mathlib.Core.Logic.{⊎_elim}
 use native.Mathlib.Omega.{arith}
 use borrow.Author.Count.{below_more}
 use borrow.Author.Rules.{rules}
 use Rattle.ground.specs.Answers.{Decides}
 use Rattle.ground.proofs.AnswerLaws.{decided}
 use Rattle.code_arrays.specs.CodeNumbers.{element_at}
+use Rattle.limits.proofs.points.none_from.Goals.{then-codes-at-ne0, else-codes-at-ne0}
 use Rattle.limits.proofs.points.none_from.Goals as goal
 
 pub loop-at-init : goal.loop-at-init
@@ -17,9 +17,10 @@ pub loop-at-preserved : goal.loop-at-preserved
 loop-at-preserved c = (
   search rules,
   search rules,
-  ⊎_elim (λ w. rw w.1 (λ h. w.0.taken (h c.loop-at.at (omega arith) c.loop-at.invariant.0)))
-      (λ w. rw w.1 (decided c.loop-at.all (λ p. below_more _ _ p (λ _. w.0.left)) (λ p k h. p k (omega arith)) c.loop-at.invariant.2))
-      c.if-codes-at-ne0.branch,
+  elim c.if-codes-at-ne0.branch [
+    | then-codes-at-ne0 w ↦ rw w.all-is (λ h. w.if-codes-at-ne0.true (h c.loop-at.at (omega arith) c.loop-at.invariant.0))
+    | else-codes-at-ne0 w ↦ rw w.all-is (decided c.loop-at.all (λ p. below_more _ _ p (λ _. w.if-codes-at-ne0.false)) (λ p k h. p k (omega arith)) c.loop-at.invariant.2)
+  ],
 )
 
 pub returns : goal.returns
