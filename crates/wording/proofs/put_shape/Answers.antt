@@ -34,6 +34,5 @@ shape_of-out-in-Refused c = c.put_decimal.auto.out
 
 pub returns-in-Refused : goal.returns-in-Refused
 returns-in-Refused c =
-    let why = c.outcome-1.given in
-    let refused = shape-refused c.args.m.now c.read_shape-read.result c.read_shape-read.ensures why.0.0 why.1 in
+    let refused = shape-refused c.args.m.now c.read_shape-read.result c.read_shape-read.ensures c.in-Refused.why c.in-Refused.is in
     worded (omega arith) (ap decimal c.refusal_number.ensures ∙ refused) (decimal-within (omega arith) c.put_decimal.ensures)

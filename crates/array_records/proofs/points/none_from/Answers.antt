@@ -26,8 +26,8 @@ loop-at-preserved c = (
   omega arith,
   omega arith,
   elim c.if-given-at-ne0.branch [
-    then-given-at-ne0 w ↦ rw w.all-is (λ h. w.if-given-at-ne0.true (ap (of_z w64) (h c.loop-at.at (omega arith) (omega arith))))
-  | else-given-at-ne0 w ↦ rw w.all-is (decided c.loop-at.all (λ h. below_more _ _ h (λ l. signed-zero (search rules) w.if-given-at-ne0.false)) (λ h k m l. h k (omega arith) l) c.loop-at.invariant.2)
+    | then-given-at-ne0 w ↦ rw w.all-is (λ h. w.if-given-at-ne0.true (ap (of_z w64) (h c.loop-at.at (omega arith) (omega arith))))
+    | else-given-at-ne0 w ↦ rw w.all-is (decided c.loop-at.all (λ h. below_more _ _ h (λ l. signed-zero {w = w64} (search rules) w.if-given-at-ne0.false)) (λ h k m l. h k (omega arith) l) c.loop-at.invariant.2)
   ],
 )
 

@@ -3,7 +3,6 @@ use Prim.Native.Nat.{suc}
 use mathlib.Core.Path.{ap, ◌∙◌}
 use mathlib.Core.List.{[], ◌∷◌}
 use native.Mathlib.Omega.{arith}
-use types.Run.{miss}
 use Rattle.layout.specs.Layout.{type_of}
 use Rattle.quantities.specs.Places as place
 use Rattle.quantities.proofs.HeldLaws.{shape-held, count_held, taken}
@@ -51,5 +50,5 @@ pub returns : goal.returns
 returns c =
     let x = c.args.shape in
     let head = worded {n = 22} (omega arith) (ap head_text c.type_number.ensures) c.put_head-a.ensures in
-    let fixed = fixed-text x (taken x c.requires.takes_shape).listed (λ e. miss (0 ∷ 1 ∷ 2 ∷ 3 ∷ 5 ∷ 6 ∷ 7 ∷ []) 4 tt (rw e at c.in_default.in_default-own.keys2)) in
+    let fixed = fixed-text x (taken x c.requires.takes_shape).listed c.in_default.not-Polygon in
     worded (omega arith) fixed (after head (after c.put_position-b.ensures c.put_rest.ensures))
