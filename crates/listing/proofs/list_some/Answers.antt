@@ -31,7 +31,7 @@ pub shape_of-out-in_default : goal.shape_of-out-in_default
 shape_of-out-in_default c = kept c.put_step-written.ensures.puts ∙ long c.loop-out.invariant
 
 pub returns-in_default : goal.returns-in_default
-returns-in_default c = stops c.loop-out.invariant c.next_frame-frame.result c.in_default.in_default-own.keys2 c.loop-out-test.true c.next_frame-frame.ensures c.ends_run.ensures c.put_step-written.ensures
+returns-in_default c = stops c.loop-out.invariant c.next_frame-frame.result c.in_default.not-Whole c.loop-out-test.true c.next_frame-frame.ensures c.ends_run.ensures c.put_step-written.ensures
 
 pub overflow_add-taken : goal.overflow_add-taken
 overflow_add-taken c = let t = there c.loop-out.invariant c.in-Whole.kind c.in-Whole.size c.next_frame-frame.ensures c.in-Whole.is in omega arith
