@@ -24,7 +24,7 @@ use Rattle.layout.proofs.DemandLaws.{readable, sound, write_done}
 use Rattle.layout.proofs.JustOne.{spare-zero-is}
 use Rattle.layout.proofs.ShapeTrips.{shape-taken, shape-again, shape-back}
 use Rattle.layout.proofs.VelocityTrips.{velocity-taken, velocity-again, velocity-back}
-use Rattle.claims.specs.Demand2.{Again, Same, Demand2, shapes, velocities}
+use Rattle.claims.specs.Demand2.{Again, Demand2, shapes, velocities}
 use Rattle.claims.proofs.ShapeReturns.{shape-however-often}
 use Rattle.claims.proofs.VelocityReturns.{velocity-however-often}
 

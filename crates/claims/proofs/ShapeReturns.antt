@@ -1,6 +1,6 @@
 -- ONE ANSWER of reporting and coding a shape, and THE TRIP: a record that can be reported and whose semi-minor code is not above
 -- its semi-major, reported and coded by its own type, is that record, however often; so, written, its own octets.
-use Prim.Native.Nat.{ℕ, zero, suc, ◌≤◌, ◌<◌}
+use Prim.Native.Nat.{ℕ, suc, ◌≤◌, ◌<◌}
 use mathlib.Core.Path.{◌≡◌, sym, subst, ◌∙◌}
 use mathlib.Core.List.{List, ◌++◌}
 use native.Mathlib.Omega.{arith}

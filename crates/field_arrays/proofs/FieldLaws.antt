@@ -30,7 +30,7 @@ use Rattle.octets.specs.Codes.{sign_of}
 use Rattle.code_arrays.specs.CodeNumbers.{element_at}
 use Rattle.code_arrays.specs.QuantityNumbers.{missing, Natural32, natural_of, Signed32, signed_of}
 use Rattle.code_arrays.proofs.NumberLaws.{natural-is}
-use Rattle.field_arrays.specs.Fields.{IsNatural, IsSigned, IsUncertaintySpeed, IsConfidence, CodesElement, outside, coded, CodesNatural, ReportsElements, too_short, no_code, reported, ReportsByte, ReportsWord, ReportsSigned}
+use Rattle.field_arrays.specs.Fields.{IsNatural, IsSigned, IsUncertaintySpeed, IsConfidence, outside, coded, CodesNatural, too_short, no_code, reported, ReportsByte, ReportsWord, ReportsSigned}
 
 -- ---- a quantity in an element
 

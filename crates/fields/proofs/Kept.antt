@@ -1,5 +1,5 @@
 -- A code keeps its value: the quantity reported for it, coded afresh, gives that code, and so however often it travels.
-use mathlib.Core.Path.{◌≡◌, refl, ap, ◌∙◌, subst, subst⁻¹}
+use mathlib.Core.Path.{◌≡◌, refl, ap, ◌∙◌, subst⁻¹}
 use Prim.Native.Nat.{ℕ, ◌+◌, ◌*◌, ◌-◌, ◌<◌}
 use native.Mathlib.Omega.{arith}
 use Rattle.ground.specs.Answers.{Said, done}

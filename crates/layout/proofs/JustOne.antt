@@ -1,10 +1,10 @@
 -- THERE IS JUST ONE MESSAGE of rows and numbers: `message` is one, and two are the same, since every bit is a row's or spare.
 use Prim.Native.Nat.{ℕ, zero, suc, ◌+◌, ◌-◌, ◌*◌, ◌/◌, ◌%◌, ◌^◌, ◌≤◌, ◌<◌}
-use mathlib.Core.Path.{◌≡◌, refl, ap, sym, subst, ◌∙◌}
+use mathlib.Core.Path.{◌≡◌, refl, ap, sym, ◌∙◌}
 use mathlib.Core.List.{List, [], ◌∷◌}
 use native.Mathlib.Omega.{arith}
 use native.Mathlib.Nat.{zero-add}
-use lib.ListN.{length, get_or}
+use lib.ListN.{get_or}
 use lib.Seq.{ext_get_or}
 use Rattle.octets.specs.Bits.{bit, bits, octets}
 use Rattle.octets.proofs.BitLaws.{bits-join, bits-octet, bits-high, bits-low}
@@ -12,7 +12,7 @@ use Rattle.octets.proofs.OctetLaws.{length-octets, octets-small}
 use Rattle.layout.specs.Layout.{MessageField, Row}
 use Rattle.layout.specs.Rows.{All, end_of, length_of, packed, message, spare_zero}
 use Rattle.layout.specs.Demands.{InFields}
-use Rattle.layout.specs.Spare.{InNoRow, Spare}
+use Rattle.layout.specs.Spare.{InNoRow}
 use Rattle.layout.specs.Messages.{in_row, IsMessage, Lengths}
 use Rattle.layout.proofs.RowLaws.{Sorted, Narrow, stand}
 use Rattle.layout.proofs.TidyLaws.{Tidy, narrow}

@@ -1,6 +1,6 @@
 -- What the calls share: a message is no longer than the room; a number outside its field or its width is 7, after what comes before it;
 -- a record made of elements is reported as the record that they say.
-use mathlib.Core.Path.{◌≡◌, refl, sym, ap, subst}
+use mathlib.Core.Path.{◌≡◌, refl, sym, subst}
 use mathlib.Core.List.{List}
 use Prim.Native.Nat.{ℕ, ◌≤◌}
 use native.Mathlib.Omega.{arith}

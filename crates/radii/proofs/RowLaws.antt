@@ -11,7 +11,7 @@ use lib.ListN.{get_or, length, take}
 use lib.Seq.{get_or-take}
 use Rattle.ground.proofs.MatchLaws.{Passed, passed}
 use Rattle.radii.specs.Rising.{Rising, Among, FirstAt}
-use Rattle.radii.specs.Rows.{IsRow, entries_of, row_from, one, below}
+use Rattle.radii.specs.Rows.{IsRow, entries_of, row_from, below}
 use Rattle.radii.specs.declared.rows.Row.{Row}
 
 pub moved : {xs : List ℕ} {r : Row} {k l : ℕ} → IsRow xs k r → k ≡ l → IsRow xs l r

@@ -1,11 +1,8 @@
 -- A velocity's places: from the codes that are found to what is promised of all places, and back where a test fails.
 --
 use mathlib.Core.Path.{◌≡◌, refl, sym, subst}
-use mathlib.Core.Logic.{⊎_elim}
-use mathlib.Core.List.{List, [], ◌∷◌}
+use mathlib.Core.List.{List}
 use native.Mathlib.Omega.{arith}
-use types.Run.{OneOf}
-use denote.Enum.Declared.{tag_of}
 use Rattle.ground.specs.Answers.{number_of, outcome_number, unmet, met, done, refused}
 use Rattle.ground.specs.declared.refusals.Outcome.{Outcome}
 use Rattle.ground.specs.declared.refusals.Outcome.TheVariants.{Done}
@@ -20,7 +17,6 @@ use Rattle.fields.specs.Fields as field
 use Rattle.layout.specs.declared.velocity.VelocityKind.{VelocityKind}
 use Rattle.layout.specs.declared.velocity.VelocityKind.TheVariants.{Nothing, Horizontal, HorizontalVertical, HorizontalUncertain, HorizontalVerticalUncertain}
 use Rattle.layout.specs.declared.velocity.Velocity.{Velocity}
-use Rattle.layout.specs.contracts.velocity.VelocityKind.{the_type}
 use Rattle.layout.specs.Layout.{MessageField, Row, count, velocity_rows}
 use Rattle.layout.specs.Layout as layout
 use Rattle.layout.specs.Demands.{TypeKnown, Used, CountSound}

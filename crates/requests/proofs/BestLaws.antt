@@ -7,7 +7,7 @@ use lib.ListN.{length}
 use Rattle.layout.specs.declared.shape.Kind.{Kind}
 use Rattle.layout.specs.declared.shape.Kind.TheVariants.{Point, Circle, Ellipse, AltitudePoint, AltitudeEllipsoid}
 use Rattle.layout.specs.declared.shape.Shape.{Shape}
-use Rattle.layout.specs.Layout.{Row, shape_rows}
+use Rattle.layout.specs.Layout.{shape_rows}
 use Rattle.layout.specs.Rows.{length_of, message}
 use Rattle.layout.specs.Shapes.{rows_in, shape_in, rows_of, value_of}
 use Rattle.layout.proofs.TidyLaws.{message-length, message-octets}

@@ -35,7 +35,7 @@ use Rattle.requests.specs.declared.Altitude.{Altitude}
 use Rattle.requests.specs.declared.Altitude.TheVariants as level
 use Rattle.requests.specs.declared.Horizontal.{Horizontal}
 use Rattle.requests.specs.declared.Horizontal.TheVariants as horizontal
-use Rattle.requests.specs.Holding.{Had, has, has_not, Area, circle, ellipse, no_area, altitude_had, area_had, altitude_uncertainty_had, confidence_had, HoldsAltitude, HoldsArea, HoldsConfidence, Holds}
+use Rattle.requests.specs.Holding.{has, has_not, Area, circle, ellipse, no_area, altitude_had, area_had, altitude_uncertainty_had, confidence_had, HoldsAltitude, HoldsArea, HoldsConfidence, Holds}
 use Rattle.requests.specs.Choice.{TakesPart, major_of, minor_of, height_of, Best}
 use Rattle.requests.specs.Codes.{has_row}
 use Rattle.requests.proofs.HoldingLaws.{differ, code_one}

@@ -9,7 +9,6 @@ use Rattle.ground.specs.declared.refusals.Outcome.TheVariants.{Done}
 use Rattle.layout.specs.declared.shape.Shape.{Shape}
 use Rattle.forming.proofs.ReadLaws.{of_length, codes-refused, done-read}
 use Rattle.array_reading.proofs.IntoLaws.{refused-into, short-into, put-into, uncounted}
-use borrow.Author.Rules.{rules}
 use Rattle.array_reading.proofs.read_outline.Goals as goal
 
 pub shape-outline-requires : goal.shape-outline-requires

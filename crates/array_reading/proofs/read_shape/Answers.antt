@@ -1,11 +1,9 @@
 -- No octets: 1. Else the answer to the form, and where it is done the polygon or the outline.
-use Prim.Native.Nat.{◌%◌}
 use mathlib.Core.Path.{refl}
 use native.Mathlib.Omega.{arith}
 use Rattle.ground.specs.Answers.{unmet}
 use Rattle.forming.proofs.ReadLaws.{refused-read, starts, form-refused}
 use Rattle.array_reading.proofs.IntoLaws.{refused-into}
-use borrow.Author.Rules.{rules}
 use Rattle.array_reading.proofs.read_shape.Goals as goal
 
 pub returns-then-s-eq0 : goal.returns-then-s-eq0

@@ -1,5 +1,4 @@
 -- The answer to the form, then to what arrives, and the rest where both are met.
-use borrow.Author.Rules.{rules}
 use Rattle.ground.proofs.AnswerLaws.{shown, refuted}
 use Rattle.records.specs.Kinds.{Formed}
 use Rattle.records.proofs.FormLaws.{formed}

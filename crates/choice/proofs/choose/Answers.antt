@@ -2,7 +2,6 @@
 use Rattle.requests.specs.Choice.{Listed, refuses}
 use Rattle.requests.proofs.TameLaws.{tame}
 use Rattle.choice.proofs.WritingLaws.{chosen_of, refused-of}
-use borrow.Author.Rules.{rules}
 use Rattle.choice.proofs.choose.Goals as goal
 
 pub write_best-requires : goal.write_best-requires

@@ -1,7 +1,6 @@
 -- 9, 10 or the message of the kind that is found.
 use native.Mathlib.Omega.{arith}
 use Rattle.choice.specs.Writing.{no_kind, no_room, written}
-use borrow.Author.Rules.{rules}
 use Rattle.choice.proofs.write_best.Goals as goal
 
 pub returns-in_default : goal.returns-in_default

@@ -1,4 +1,3 @@
-use borrow.Author.Rules.{rules}
 use Rattle.fetching.proofs.levelled.Goals as goal
 
 pub returns : goal.returns

@@ -1,4 +1,3 @@
-use borrow.Author.Rules.{rules}
 use Rattle.fetching.proofs.started.Goals as goal
 
 pub returns : goal.returns

@@ -3,7 +3,6 @@ use mathlib.Core.Path.{refl}
 use native.Mathlib.Omega.{arith}
 use Rattle.layout.specs.declared.shape.Kind.TheVariants.{Point, Circle, Ellipse, Polygon, AltitudePoint, AltitudeEllipsoid, Arc}
 use Rattle.forming.proofs.AnswerKinds.{of-kind, nothing, by_length}
-use borrow.Author.Rules.{rules}
 use Rattle.forming.proofs.form.Goals as goal
 
 pub returns-in-Nothing : goal.returns-in-Nothing

@@ -3,7 +3,6 @@ use mathlib.Core.Path.{refl}
 use native.Mathlib.Omega.{arith}
 use Rattle.ground.specs.Answers.{unmet, met}
 use Rattle.forming.proofs.AnswerKinds.{few, enough}
-use borrow.Author.Rules.{rules}
 use Rattle.forming.proofs.polygon.Goals as goal
 
 pub returns-then-n-lt3 : goal.returns-then-n-lt3

@@ -1,5 +1,4 @@
 -- Fewer than four octets by their number; else by the head, and by whether the message is all there.
-use borrow.Author.Rules.{rules}
 use mathlib.Core.Path.{sym, ◌∙◌}
 use lib.ListN.{get_or}
 use borrow.Author.Tests.{le-leb, lt-leb, not-true, not-false}

@@ -1,6 +1,5 @@
 -- Each kind by its law.
 use mathlib.Core.Path.{refl}
-use borrow.Author.Rules.{rules}
 use Rattle.judging.proofs.DemandLaws.{elements-codes}
 use Rattle.judging.proofs.codes_outcome.Goals as goal
 

@@ -1,6 +1,5 @@
 -- The codes, then the fields.
 use mathlib.Core.Path.{refl}
-use borrow.Author.Rules.{rules}
 use Rattle.ground.specs.Answers.{unmet, met}
 use Rattle.ground.proofs.AnswerLaws.{shown, refuted}
 use Rattle.judging.proofs.DemandLaws.{whole, codes-refused}

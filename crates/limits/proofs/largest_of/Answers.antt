@@ -1,5 +1,4 @@
 -- Each row is the layout table's.
-use borrow.Author.Rules.{rules}
 use Rattle.limits.proofs.largest_of.Goals as goal
 
 pub returns-in-Nothing : goal.returns-in-Nothing

@@ -3,7 +3,6 @@ use Prim.Native.Nat.{ℕ}
 use mathlib.Core.Path.{ap, ◌∙◌}
 use mathlib.Core.List.{[], ◌∷◌}
 use native.Mathlib.Omega.{arith}
-use borrow.Author.Rules.{rules}
 use Rattle.octets.specs.Codes.{complement}
 use Rattle.code_arrays.specs.CodeNumbers.{from_bits}
 use Rattle.code_arrays.proofs.ArrayLaws.{same-element}

@@ -1,12 +1,7 @@
 -- Whether each number passed is at most the largest.
 use Prim.Native.Nat.{ℕ, ◌-◌, ◌≤◌, ◌<◌}
-use mathlib.Core.Logic.{⊎_elim}
-use native.Mathlib.Omega.{arith}
 use lib.ListN.{get_or}
-use borrow.Author.Rules.{rules}
-use borrow.Author.Count.{below_more}
 use Rattle.ground.specs.Answers.{Decides}
-use Rattle.ground.proofs.AnswerLaws.{decided}
 use Rattle.limits.proofs.within.Given as goal
 
 abbrev pub invariant-loop-i : goal.invariant-loop-i

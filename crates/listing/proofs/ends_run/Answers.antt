@@ -1,5 +1,4 @@
 -- By the frame.
-use borrow.Author.Rules.{rules}
 use Rattle.listing.proofs.ends_run.Goals as goal
 
 pub returns-in-Broken : goal.returns-in-Broken

@@ -1,5 +1,4 @@
 -- Below 2^23 the number itself, from there 2^24 less: both are numbers of 32 bits.
-use borrow.Author.Rules.{rules}
 use Prim.Native.Nat.{ℕ, ◌<◌}
 use mathlib.Core.Path.{◌∙◌, ap}
 use native.Mathlib.Omega.{arith}

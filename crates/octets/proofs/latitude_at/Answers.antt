@@ -1,5 +1,4 @@
 -- The first of 24 bits is the sign, the other 23 are the number.
-use borrow.Author.Rules.{rules}
 use Prim.Native.Nat.{ℕ, ◌*◌}
 use mathlib.Core.Bool.{Bool}
 use mathlib.Core.Path.{◌≡◌}

@@ -1,5 +1,4 @@
 -- Three octets hold less than 2^24, and their complement is a number of 32 bits.
-use borrow.Author.Rules.{rules}
 use mathlib.Core.Path.{ap, ◌∙◌}
 use lib.IntN.{ℤ}
 use mir.Syntax.{w32}

@@ -1,5 +1,4 @@
 -- The low seven of eight bits are what is left over 128.
-use borrow.Author.Rules.{rules}
 use Prim.Native.Nat.{◌*◌}
 use native.Mathlib.Omega.{arith}
 use Rattle.octets.proofs.BitLaws.{bits-low}

@@ -1,5 +1,4 @@
 -- An octet is the number of its eight bits.
-use borrow.Author.Rules.{rules}
 use mathlib.Core.Path.{sym}
 use native.Mathlib.Omega.{arith}
 use Rattle.octets.proofs.BitLaws.{bits-octet}

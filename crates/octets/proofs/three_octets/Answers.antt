@@ -1,5 +1,4 @@
 -- The bits of three octets, joined.
-use borrow.Author.Rules.{rules}
 use native.Mathlib.Omega.{arith}
 use Rattle.octets.proofs.BitLaws.{bits-three}
 use Rattle.octets.proofs.three_octets.Goals as goal

@@ -1,5 +1,4 @@
 -- The bits of two octets, joined.
-use borrow.Author.Rules.{rules}
 use native.Mathlib.Omega.{arith}
 use Rattle.octets.proofs.BitLaws.{bits-two}
 use Rattle.octets.proofs.word.Goals as goal

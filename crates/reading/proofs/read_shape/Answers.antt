@@ -1,10 +1,8 @@
 -- No octets: 1. Else the answer to the form, and where it is done the answer to the record's codes.
-use Prim.Native.Nat.{◌%◌}
 use mathlib.Core.Path.{refl}
 use native.Mathlib.Omega.{arith}
 use Rattle.ground.specs.Answers.{unmet}
 use Rattle.forming.proofs.ReadLaws.{refused-read, starts, form-refused, of_length, codes-refused, done-read}
-use borrow.Author.Rules.{rules}
 use Rattle.reading.proofs.read_shape.Goals as goal
 
 pub returns-then-s-eq0 : goal.returns-then-s-eq0

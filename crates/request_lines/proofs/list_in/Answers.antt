@@ -2,7 +2,6 @@
 use native.Mathlib.Omega.{arith}
 use Rattle.text.proofs.SaysLaws.{unsigned-says, unsigned-none}
 use Rattle.request_lines.proofs.AskingLaws.{list-none, list-too-large}
-use borrow.Author.Rules.{rules}
 use Rattle.request_lines.proofs.list_in.Goals as goal
 
 pub returns-in_default : goal.returns-in_default

@@ -1,5 +1,5 @@
 -- A digit or a letter.
-use Rattle.std.proofs.Common.{arith, rules, le-ltb, lt-ltb}
+use Rattle.std.proofs.Common.{arith, le-ltb, lt-ltb}
 use Rattle.text.proofs.digit_of.Goals as goal
 
 pub returns-then-value-lt10 : goal.returns-then-value-lt10

@@ -1,5 +1,5 @@
 -- A pair's 256-fold less 2559 for each ten is its tens, and 256 for each of its units.
-use Rattle.std.proofs.Common.{arith, rules}
+use Rattle.std.proofs.Common.{arith}
 use Rattle.text.proofs.JoinedLaws.{pairs-less, tens-less, digits-found}
 use Rattle.text.proofs.digits_of.Goals as goal
 

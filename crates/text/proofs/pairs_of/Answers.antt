@@ -1,5 +1,5 @@
 -- The hundreds of both halves are found at once; what a half has beside them is its second pair.
-use Rattle.std.proofs.Common.{arith, rules}
+use Rattle.std.proofs.Common.{arith}
 use Rattle.text.proofs.JoinedLaws.{upper-hundreds, lower-hundreds, hundreds-less, pairs-found}
 use Rattle.text.proofs.pairs_of.Goals as goal
 

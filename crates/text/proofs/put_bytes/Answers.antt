@@ -1,5 +1,5 @@
 -- The first i octets of src are put; one more goes after them.
-use Rattle.std.proofs.Common.{◌≡◌, ℕ, ◌+◌, ◌-◌, ◌<◌, ◌≤◌, List, length, get_or, take, set, add_assoc, add-one, arith, length-set, take_all, take-suc, rules}
+use Rattle.std.proofs.Common.{ℕ, ◌+◌, ◌<◌, ◌≤◌, List, length, get_or, take, set, add_assoc, add-one, arith, length-set, take_all, take-suc}
 use Rattle.text.specs.Text.{Puts}
 use Rattle.text.proofs.OutputLaws.{then, one}
 use Rattle.text.proofs.put_bytes.Goals as goal

@@ -1,5 +1,5 @@
 -- At most sixteen digits, and eight after them.
-use Rattle.std.proofs.Common.{arith, rules}
+use Rattle.std.proofs.Common.{arith}
 use Rattle.text.proofs.OutputLaws.{then, decimal-eights, eights-length}
 use Rattle.text.proofs.put_decimal.Goals as goal
 

@@ -1,5 +1,5 @@
 -- The eight octets of one number are set, one after the other.
-use Rattle.std.proofs.Common.{arith, length-set, rules}
+use Rattle.std.proofs.Common.{arith, length-set}
 use Rattle.text.proofs.JoinedLaws.{four-pairs, eight-low, octets-put}
 use Rattle.text.proofs.put_eight.Goals as goal
 

@@ -1,5 +1,5 @@
 -- The low four octets of one number are set, one after the other.
-use Rattle.std.proofs.Common.{arith, length-set, rules}
+use Rattle.std.proofs.Common.{arith, length-set}
 use Rattle.text.proofs.JoinedLaws.{two-pairs, four_low, four-octets-put}
 use Rattle.text.proofs.put_four.Goals as goal
 

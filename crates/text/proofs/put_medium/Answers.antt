@@ -1,5 +1,5 @@
 -- At most four digits, and four after them.
-use Rattle.std.proofs.Common.{arith, rules}
+use Rattle.std.proofs.Common.{arith}
 use Rattle.text.proofs.OutputLaws.{then, decimal-fours, fours-length}
 use Rattle.text.proofs.put_medium.Goals as goal
 

@@ -1,5 +1,5 @@
 -- The sign says whether a minus sign is put, and the size is put after it.
-use Rattle.std.proofs.Common.{length, ap, arith, rules}
+use Rattle.std.proofs.Common.{length, ap, arith}
 use Rattle.text.proofs.OutputLaws.{then, minus-text, plus-text}
 use Rattle.text.proofs.put_number.Goals as goal
 

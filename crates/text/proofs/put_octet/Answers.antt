@@ -1,6 +1,5 @@
 -- A space and two digits, one after the other.
 use Rattle.text.proofs.OctetLaws.{octet-put}
-use Rattle.std.proofs.Common.{rules}
 use Rattle.text.proofs.put_octet.Goals as goal
 
 pub returns : goal.returns

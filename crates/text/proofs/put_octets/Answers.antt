@@ -1,6 +1,6 @@
 -- The first i octets are put; one more goes after them.
-use Rattle.std.proofs.Common.{◌≡◌, ◌+◌, ◌-◌, ◌*◌, ◌≤◌, length, take, refl, ◌∙◌, arith, take_all, rules}
-use Rattle.text.specs.Text.{Puts, octets_text}
+use Rattle.std.proofs.Common.{◌≤◌, length, refl, ◌∙◌, arith, take_all}
+use Rattle.text.specs.Text.{octets_text}
 use Rattle.text.proofs.OctetLaws.{octets-turn}
 use Rattle.text.proofs.OutputLaws.{none, kept}
 use Rattle.text.proofs.put_octets.Goals as goal

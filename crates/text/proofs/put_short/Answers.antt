@@ -1,5 +1,5 @@
 -- One, two, three or four digits.
-use Rattle.std.proofs.Common.{length, ap, arith, rules}
+use Rattle.std.proofs.Common.{length, ap, arith}
 use Rattle.text.proofs.OutputLaws.{then, decimal-small, decimal-pair, decimal-three, decimal-four}
 use Rattle.text.proofs.put_short.Goals as goal
 

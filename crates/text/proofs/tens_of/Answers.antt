@@ -1,5 +1,5 @@
 -- Four products by 103 stand side by side, and each is divided by 1024 where it stands.
-use Rattle.std.proofs.Common.{arith, rules}
+use Rattle.std.proofs.Common.{arith}
 use Rattle.text.proofs.JoinedLaws.{pairs-less, tens-found}
 use Rattle.text.proofs.tens_of.Goals as goal
 

@@ -1,5 +1,5 @@
 -- What a number has beside its hundreds is its second pair.
-use Rattle.std.proofs.Common.{arith, rules}
+use Rattle.std.proofs.Common.{arith}
 use Rattle.text.proofs.JoinedLaws.{hundredth, two-pairs-found}
 use Rattle.text.proofs.two_pairs_of.Goals as goal
 

@@ -1,13 +1,9 @@
 -- No octets: 1. Else the answer to the form, and where it is done the demand on the record's bearing.
-use Prim.Native.Nat.{◌<◌}
-use mathlib.Core.Path.{◌≡◌, refl}
+use mathlib.Core.Path.{refl}
 use native.Mathlib.Omega.{arith}
-use lib.ListN.{length}
 use Rattle.ground.specs.Answers.{unmet}
-use Rattle.layout.specs.Velocities.{velocity_kind_in}
 use Rattle.velocities.proofs.FirstOctet.{kind-in}
 use Rattle.velocities.proofs.ReadLaws.{refused-read, form-refused, of_length, bearing-refused, done-read}
-use borrow.Author.Rules.{rules}
 use Rattle.velocities.proofs.read_velocity.Goals as goal
 
 pub returns-then-s-eq0 : goal.returns-then-s-eq0

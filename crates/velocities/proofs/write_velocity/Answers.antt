@@ -4,7 +4,6 @@ use Rattle.layout.specs.Velocities.{velocity_value_of}
 use Rattle.layout.proofs.WriteLaws.{done-answer, done-writes, refused-writes}
 use Rattle.velocity_octets.specs.VelocityOctets.{velocity_rows_of}
 use Rattle.velocities.proofs.WriteLaws.{storable}
-use borrow.Author.Rules.{rules}
 use Rattle.velocities.proofs.write_velocity.Goals as goal
 
 pub store_velocity-requires : goal.store_velocity-requires

@@ -1,9 +1,6 @@
 -- The elements of a record say the record, so that what is answered to them is answered to it.
-use mathlib.Core.Path.{◌≡◌, sym}
-use mathlib.Core.List.{[], ◌∷◌}
-use borrow.Author.Rules.{rules}
+use mathlib.Core.Path.{sym}
 use native.Mathlib.Omega.{arith}
-use Rattle.layout.specs.declared.shape.Kind.TheVariants.{Nothing}
 use Rattle.writing.proofs.ElementLaws.{no_kind, kind-said, held, answer-said}
 use Rattle.writing.proofs.shape_outcome.Goals as goal
 

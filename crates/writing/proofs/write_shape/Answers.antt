@@ -1,9 +1,6 @@
 -- The elements of a record say the record, so that what is written of them is written of it.
-use mathlib.Core.Path.{◌≡◌, refl}
-use mathlib.Core.List.{[], ◌∷◌}
-use borrow.Author.Rules.{rules}
+use mathlib.Core.Path.{refl}
 use native.Mathlib.Omega.{arith}
-use Rattle.layout.specs.declared.shape.Kind.TheVariants.{Nothing}
 use Rattle.writing.proofs.ElementLaws.{no_kind, held, writes-said}
 use Rattle.writing.proofs.write_shape.Goals as goal
 

@@ -1,14 +1,11 @@
 -- After i turns the elements of i points are put.
 use mathlib.Core.Path.{◌≡◌, refl, sym, ◌∙◌}
 use borrow.Author.Rules.{rules}
-use Prim.Native.Nat.{◌+◌, ◌*◌, ◌-◌, ◌≤◌}
+use Prim.Native.Nat.{◌+◌, ◌*◌}
 use native.Mathlib.Omega.{arith}
-use lib.ListN.{length}
-use lib.Seq.{sets}
 use Rattle.octets.specs.Codes.{latitude_in, longitude_in}
 use Rattle.layout.specs.Shapes.{zero_latitude, zero_longitude}
 use Rattle.fetching.specs.Fetching.{latitudes_of, longitudes_of}
-use Rattle.code_arrays.specs.Shapes.{point_elements}
 use Rattle.code_arrays.proofs.PointLaws.{more}
 use Rattle.array_reading.proofs.IntoLaws.{point_at}
 use Rattle.array_reading.proofs.points.put_read_points.Goals as goal

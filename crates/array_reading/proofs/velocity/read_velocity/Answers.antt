@@ -1,14 +1,10 @@
 -- No octets: 1. Else the answer to the form, the demand on the bearing, and the room.
-use Prim.Native.Nat.{◌<◌}
-use mathlib.Core.Path.{◌≡◌, refl}
+use mathlib.Core.Path.{refl}
 use native.Mathlib.Omega.{arith}
-use lib.ListN.{length}
 use Rattle.ground.specs.Answers.{unmet}
-use Rattle.layout.specs.Velocities.{velocity_kind_in}
 use Rattle.velocities.proofs.FirstOctet.{kind-in}
 use Rattle.velocities.proofs.ReadLaws.{refused-read, form-refused, of_length, bearing-refused, done-read}
 use Rattle.array_reading.proofs.IntoLaws.{motion-refused, motion-short, motion-put}
-use borrow.Author.Rules.{rules}
 use Rattle.array_reading.proofs.velocity.read_velocity.Goals as goal
 
 pub returns-then-s-eq0 : goal.returns-then-s-eq0

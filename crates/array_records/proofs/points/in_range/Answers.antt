@@ -1,5 +1,4 @@
 -- All points are kept where those that are used have their codes and no number comes after them.
-use borrow.Author.Rules.{rules}
 use borrow.Author.Tests.{not-true, not-false}
 use Rattle.array_records.proofs.PointLaws.{used-kept, kept_by}
 use mathlib.Core.Bool.{not}

@@ -1,5 +1,5 @@
 -- The flag says whether the elements passed are all 0.
-use Prim.Native.Nat.{ℕ, ◌-◌, ◌≤◌, ◌<◌}
+use Prim.Native.Nat.{ℕ, ◌≤◌, ◌<◌}
 use mathlib.Core.Path.{◌≡◌, ap}
 use mathlib.Core.List.{List}
 use native.Mathlib.Omega.{arith}
@@ -8,7 +8,6 @@ use mir.Syntax.{w64}
 use mir.Val.{of_z}
 use borrow.Author.Rules.{rules}
 use borrow.Author.Count.{below_more}
-use Rattle.ground.specs.Answers.{Decides}
 use Rattle.ground.proofs.AnswerLaws.{decided}
 use Rattle.quantities.proofs.TestLaws.{signed-zero}
 use Rattle.code_arrays.specs.QuantityNumbers.{quantity_in}

@@ -1,17 +1,8 @@
 -- The flag says whether the elements passed are all 0.
 use Prim.Native.Nat.{ℕ, ◌-◌, ◌≤◌, ◌<◌}
-use mathlib.Core.Path.{◌≡◌, ap}
-use mathlib.Core.Logic.{⊎_elim}
-use mathlib.Core.List.{List}
-use native.Mathlib.Omega.{arith}
-use lib.IntN.{ℤ, pos}
-use mir.Syntax.{w64}
-use mir.Val.{of_z}
-use borrow.Author.Rules.{rules}
-use borrow.Author.Count.{below_more}
+use mathlib.Core.Path.{◌≡◌}
+use lib.IntN.{pos}
 use Rattle.ground.specs.Answers.{Decides}
-use Rattle.ground.proofs.AnswerLaws.{decided}
-use Rattle.quantities.proofs.TestLaws.{signed-zero}
 use Rattle.code_arrays.specs.QuantityNumbers.{quantity_in}
 use Rattle.array_records.proofs.points.none_from.Given as goal
 

@@ -1,10 +1,7 @@
 -- After i turns the codes of i points are put; each point has its codes, since it is in range.
-use Prim.Native.Nat.{◌-◌, ◌≤◌}
-use mathlib.Core.Path.{◌≡◌, refl, ap, ◌∙◌}
+use mathlib.Core.Path.{◌≡◌, refl, ◌∙◌}
 use native.Mathlib.Omega.{arith}
-use lib.ListN.{length}
 use borrow.Author.Rules.{rules}
-use Rattle.array_records.specs.Records.{PutsPointCodes}
 use Rattle.array_records.proofs.PointLaws.{coded-at, none-coded, one-put}
 use Rattle.array_records.proofs.points.put_coded_points.Goals.{in-Codes, in_default}
 use Rattle.array_records.proofs.points.put_coded_points.Goals as goal

@@ -6,7 +6,6 @@ use Rattle.layout.specs.declared.shape.Kind.TheVariants.{Ellipse}
 use Rattle.requests.specs.Choice.{Listed}
 use Rattle.requests.proofs.FoundLaws.{by-area, able-ellipse, able-circle, circle-best, ellipse-best}
 use Rattle.choice.proofs.ListedLaws.{found-only}
-use borrow.Author.Rules.{rules}
 use mathlib.Core.Bool.{not}
 use mathlib.Core.Path.{ap}
 use Rattle.choice.proofs.kind.area_kind.Goals as goal

@@ -4,7 +4,6 @@ use Rattle.layout.specs.declared.shape.Kind.TheVariants.{Point}
 use Rattle.requests.specs.Choice.{Listed}
 use Rattle.requests.proofs.FoundLaws.{no-kind-aloft, no-kind-sure, only-point, able-point}
 use Rattle.choice.proofs.ListedLaws.{found-only}
-use borrow.Author.Rules.{rules}
 use Rattle.choice.proofs.kind.best_kind.Goals as goal
 
 pub returns-then-wanted-2 : goal.returns-then-wanted-2

@@ -6,7 +6,6 @@ use Rattle.requests.proofs.FoundLaws.{no-kind-above, able-ellipsoid, only-ellips
 use Rattle.choice.proofs.ListedLaws.{found-only}
 use mathlib.Core.Path.{sym, ◌∙◌}
 use native.Mathlib.Omega.{arith}
-use borrow.Author.Rules.{rules}
 use Rattle.choice.proofs.kind.elevated_kind.Goals as goal
 
 pub returns-then-wanted-2 : goal.returns-then-wanted-2

@@ -1,5 +1,4 @@
 use mathlib.Core.Path.{refl}
-use borrow.Author.Rules.{rules}
 use Rattle.choice.proofs.kind.if_listed.Goals as goal
 
 pub returns-then-listed : goal.returns-then-listed

@@ -1,7 +1,6 @@
 -- The bit is a power of two, so it divides.
 use Rattle.layout.specs.Layout.{type_of}
 use lib.Pow.{pow_pos}
-use borrow.Author.Rules.{rules}
 use Rattle.choice.proofs.kind.listed.Goals as goal
 
 pub nonzero_div-list : goal.nonzero_div-list

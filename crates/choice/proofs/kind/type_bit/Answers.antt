@@ -1,5 +1,4 @@
 -- Each kind's power of two.
-use borrow.Author.Rules.{rules}
 use Rattle.choice.proofs.kind.type_bit.Goals as goal
 
 pub returns-in-Nothing : goal.returns-in-Nothing

@@ -8,7 +8,6 @@ use lib.Seq.{sets}
 use Rattle.ground.specs.declared.code.AltitudeCode.{AltitudeCode}
 use Rattle.octets.specs.Codes.{level}
 use Rattle.requests.proofs.RecordLaws.{point-altitude, ellipsoid-altitude}
-use borrow.Author.Rules.{rules}
 use Rattle.choice.proofs.message.put_rest.Goals as goal
 
 pub bounds-out-7 : goal.bounds-out-7

@@ -9,7 +9,6 @@ use Rattle.octets.specs.Codes.{position}
 use Rattle.composing.specs.Composing.{rest}
 use Rattle.requests.specs.Codes.{wanted_record}
 use Rattle.choice.proofs.StoredLaws.{position-room, parts-stored}
-use borrow.Author.Rules.{rules}
 use Rattle.choice.proofs.message.store_choice.Goals as goal
 
 pub bounds-out-0 : goal.bounds-out-0

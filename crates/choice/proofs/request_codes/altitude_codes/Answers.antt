@@ -1,5 +1,4 @@
 use mathlib.Core.Path.{refl}
-use borrow.Author.Rules.{rules}
 use Rattle.choice.proofs.request_codes.altitude_codes.Goals as goal
 
 -- src/lib.rt:169:1

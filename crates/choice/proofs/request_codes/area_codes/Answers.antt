@@ -2,7 +2,6 @@
 use mathlib.Core.Path.{refl}
 use Rattle.fields.specs.Fields.{uncertainty}
 use Rattle.requests.proofs.CodedLaws.{coded-never}
-use borrow.Author.Rules.{rules}
 use Rattle.choice.proofs.request_codes.area_codes.Goals as goal
 
 pub circle_codes-requires : goal.circle_codes-requires

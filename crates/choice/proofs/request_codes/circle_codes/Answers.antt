@@ -2,7 +2,6 @@
 use mathlib.Core.Path.{refl}
 use Rattle.fields.specs.Fields.{uncertainty}
 use Rattle.requests.proofs.CodedLaws.{coded-never}
-use borrow.Author.Rules.{rules}
 use Rattle.choice.proofs.request_codes.circle_codes.Goals as goal
 
 pub returns-in_default : goal.returns-in_default

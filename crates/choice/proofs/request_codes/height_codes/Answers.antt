@@ -1,7 +1,6 @@
 use mathlib.Core.Path.{refl}
 use Rattle.fields.specs.Fields.{altitude_uncertainty}
 use Rattle.requests.proofs.CodedLaws.{coded-never}
-use borrow.Author.Rules.{rules}
 use Rattle.choice.proofs.request_codes.height_codes.Goals as goal
 
 -- src/lib.rt:158:17

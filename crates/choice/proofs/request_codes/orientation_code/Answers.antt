@@ -10,7 +10,6 @@ use Rattle.angles.specs.declared.OrientationCoded.TheVariants.{Code, Refused}
 use Rattle.requests.specs.declared.Horizontal.TheVariants.{Ellipse}
 use Rattle.requests.proofs.CodedLaws.{coded-never}
 use Rattle.choice.specs.RequestCodes.{CodesOrientation}
-use borrow.Author.Rules.{rules}
 use Rattle.choice.proofs.request_codes.orientation_code.Goals as goal
 
 -- of axes in order, what the orientation's coder says

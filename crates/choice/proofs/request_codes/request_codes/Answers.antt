@@ -3,7 +3,6 @@ use Rattle.ground.specs.Answers.{unmet, met}
 use Rattle.fields.specs.Fields.{latitude, longitude, confidence}
 use Rattle.requests.specs.Ranges.{RequestInRange}
 use Rattle.requests.proofs.CodedLaws.{coded-never}
-use borrow.Author.Rules.{rules}
 use Rattle.choice.proofs.request_codes.request_codes.Goals as goal
 
 -- src/lib.rt:51:9

@@ -1,5 +1,4 @@
 -- `code_arrays::answers::else_out_of_range` meets its contract, by the outcome.
-use borrow.Author.Rules.{rules}
 use Rattle.code_arrays.proofs.answers.else_out_of_range.Goals as goal
 
 pub returns-in-Done : goal.returns-in-Done

@@ -1,6 +1,5 @@
 -- `code_arrays::answers::given_room` meets its contract: what is done has room, or not; a refusal stays.
 use borrow.Author.Tests.{lt-ltb, le-ltb}
-use borrow.Author.Rules.{rules}
 use Rattle.code_arrays.proofs.answers.given_room.Goals as goal
 
 pub returns-then-room-wanted : goal.returns-then-room-wanted

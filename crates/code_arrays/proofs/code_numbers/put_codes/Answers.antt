@@ -1,10 +1,7 @@
 -- The first i elements are copied; a turn copies one more.
-use borrow.Author.Rules.{rules}
 use mathlib.Core.Path.{refl}
-use Prim.Native.Nat.{◌-◌}
 use native.Mathlib.Omega.{arith}
-use lib.ListN.{length}
-use Rattle.code_arrays.proofs.CopyLaws.{Copied, as_long, one_more, all-copied}
+use Rattle.code_arrays.proofs.CopyLaws.{as_long, one_more, all-copied}
 use Rattle.code_arrays.proofs.code_numbers.put_codes.Goals as goal
 
 pub loop-i-init : goal.loop-i-init

@@ -1,7 +1,6 @@
 -- `code_arrays::quantity_numbers::natural` meets its contract: the size of a number that 32 bits hold, else 0.
 use Rattle.ground.proofs.AnswerLaws.{shown, refuted}
 use Rattle.code_arrays.proofs.NumberLaws.{natural-none, natural-fits, natural-is}
-use borrow.Author.Rules.{rules}
 use mathlib.Core.Bool.{not}
 use mathlib.Core.Path.{ap}
 use Rattle.code_arrays.proofs.quantity_numbers.natural.Goals as goal

@@ -1,13 +1,10 @@
 -- The first i elements are copied; a turn copies one more.
-use borrow.Author.Rules.{rules}
 use mathlib.Core.Path.{refl}
-use Prim.Native.Nat.{◌-◌}
 use native.Mathlib.Omega.{arith}
 use lib.IntN.{pos}
-use lib.ListN.{length}
 use mir.Syntax.{w64}
 use mir.Facts.{to_z-of_z}
-use Rattle.code_arrays.proofs.CopyLaws.{Copied, as_long, one_more, all-copied}
+use Rattle.code_arrays.proofs.CopyLaws.{as_long, one_more, all-copied}
 use Rattle.code_arrays.proofs.quantity_numbers.put_quantities.Goals as goal
 
 pub loop-i-init : goal.loop-i-init

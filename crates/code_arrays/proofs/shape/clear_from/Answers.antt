@@ -1,11 +1,10 @@
 -- After each turn there is one zero more.
 use mathlib.Core.Path.{◌≡◌, refl, ap, ◌∙◌}
-use Prim.Native.Nat.{ℕ, ◌+◌, ◌*◌, ◌-◌, ◌≤◌}
+use Prim.Native.Nat.{ℕ, ◌+◌, ◌*◌, ◌-◌}
 use native.Mathlib.Omega.{arith}
-use lib.ListN.{length, length-set, replicate}
+use lib.ListN.{length-set, replicate}
 use lib.Seq.{sets}
 use Rattle.code_arrays.proofs.ClearLaws.{none-cleared, one-cleared}
-use borrow.Author.Rules.{rules}
 use Rattle.code_arrays.proofs.shape.clear_from.Goals as goal
 
 pub loop-i-init : goal.loop-i-init

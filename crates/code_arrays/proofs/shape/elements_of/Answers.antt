@@ -7,7 +7,6 @@ use lib.ListN.{length, drop, replicate}
 use lib.Seq.{sets}
 use Rattle.code_arrays.proofs.CopyLaws.{sets-after}
 use Rattle.code_arrays.specs.Shapes.{single_elements, point_elements}
-use borrow.Author.Rules.{rules}
 use Rattle.code_arrays.proofs.shape.elements_of.Goals as goal
 
 pub returns : goal.returns

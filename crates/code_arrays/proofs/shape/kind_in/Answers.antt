@@ -2,7 +2,6 @@
 use mathlib.Core.Path.{ap, ◌∙◌}
 use Rattle.layout.specs.Shapes.{kind_of}
 use Rattle.code_arrays.proofs.ArrayLaws.{same_kind}
-use borrow.Author.Rules.{rules}
 use Rattle.code_arrays.proofs.shape.kind_in.Goals as goal
 
 pub returns : goal.returns

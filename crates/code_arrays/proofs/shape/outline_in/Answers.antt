@@ -9,7 +9,6 @@ use Rattle.layout.specs.Shapes.{zero_latitude, zero_longitude}
 use Rattle.octets.specs.Codes.{complement}
 use Rattle.code_arrays.specs.CodeNumbers.{from_bits}
 use Rattle.code_arrays.proofs.ArrayLaws.{same-element, number, turn}
-use borrow.Author.Rules.{rules}
 use Rattle.code_arrays.proofs.shape.outline_in.Goals as goal
 
 pub overflow_cast-result : goal.overflow_cast-result

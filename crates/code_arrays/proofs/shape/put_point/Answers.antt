@@ -4,7 +4,6 @@ use mathlib.Core.Path.{◌≡◌}
 use native.Mathlib.Numerals.{add-one}
 use native.Mathlib.Omega.{arith}
 use lib.ListN.{length-set}
-use borrow.Author.Rules.{rules}
 use Rattle.code_arrays.proofs.shape.put_point.Goals as goal
 
 pub bounds-out-at-2 : goal.bounds-out-at-2

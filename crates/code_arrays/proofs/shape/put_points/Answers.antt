@@ -1,11 +1,7 @@
 -- After i turns the elements of i points are put.
 use mathlib.Core.Path.{◌≡◌, refl, ◌∙◌}
 use borrow.Author.Rules.{rules}
-use Prim.Native.Nat.{◌-◌, ◌≤◌}
 use native.Mathlib.Omega.{arith}
-use lib.ListN.{length}
-use lib.Seq.{sets}
-use Rattle.code_arrays.specs.Shapes.{point_elements}
 use Rattle.code_arrays.proofs.PointLaws.{more}
 use Rattle.code_arrays.proofs.shape.put_points.Goals as goal
 

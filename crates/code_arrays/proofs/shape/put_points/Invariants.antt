@@ -1,12 +1,9 @@
 -- After i turns the elements of i points are put.
-use mathlib.Core.Path.{◌≡◌, refl, ◌∙◌}
-use borrow.Author.Rules.{rules}
+use mathlib.Core.Path.{◌≡◌}
 use Prim.Native.Nat.{◌-◌, ◌≤◌}
-use native.Mathlib.Omega.{arith}
 use lib.ListN.{length}
 use lib.Seq.{sets}
 use Rattle.code_arrays.specs.Shapes.{point_elements}
-use Rattle.code_arrays.proofs.PointLaws.{more}
 use Rattle.code_arrays.proofs.shape.put_points.Given as goal
 
 abbrev pub invariant-loop-i : goal.invariant-loop-i

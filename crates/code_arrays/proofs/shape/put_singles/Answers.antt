@@ -6,7 +6,6 @@ use native.Mathlib.Omega.{arith}
 use lib.ListN.{length, drop}
 use lib.Seq.{sets-eq}
 use Rattle.code_arrays.specs.Shapes.{single_elements}
-use borrow.Author.Rules.{rules}
 use Rattle.code_arrays.proofs.shape.put_singles.Goals as goal
 
 pub returns : goal.returns

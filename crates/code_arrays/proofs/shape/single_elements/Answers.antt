@@ -1,6 +1,5 @@
 -- `code_arrays::shape::single_elements` meets its contract: each element is its field's number.
 use native.Mathlib.Omega.{arith}
-use borrow.Author.Rules.{rules}
 use Rattle.code_arrays.proofs.shape.single_elements.Goals as goal
 
 pub overflow_cast-result-10 : goal.overflow_cast-result-10

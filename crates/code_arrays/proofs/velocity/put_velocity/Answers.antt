@@ -3,7 +3,6 @@ use native.Mathlib.Omega.{arith}
 use lib.ListN.{length-set}
 use lib.Seq.{sets-eq}
 use Rattle.code_arrays.specs.Velocities.{velocity_elements}
-use borrow.Author.Rules.{rules}
 use Rattle.code_arrays.proofs.velocity.put_velocity.Goals as goal
 
 pub bounds-out-1 : goal.bounds-out-1

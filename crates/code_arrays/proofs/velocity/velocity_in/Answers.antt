@@ -1,5 +1,4 @@
 -- `code_arrays::velocity::velocity_in` meets its contract: each field is its element's number.
-use borrow.Author.Rules.{rules}
 use Rattle.code_arrays.proofs.velocity.velocity_in.Goals as goal
 
 pub returns : goal.returns

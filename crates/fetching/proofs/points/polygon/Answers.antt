@@ -1,7 +1,6 @@
 -- After i turns the record has i points, and zeros after them.
-use Prim.Native.Nat.{◌≤◌, ◌-◌, ◌+◌, ◌*◌}
+use Prim.Native.Nat.{◌+◌, ◌*◌}
 use mathlib.Core.Path.{◌≡◌, ap, ◌∙◌}
-use borrow.Author.Rules.{rules}
 use native.Mathlib.Omega.{arith}
 use lib.ListN.{set}
 use Rattle.ground.specs.declared.code.LatitudeCode.{LatitudeCode}

@@ -1,6 +1,5 @@
 -- `codes::confidence` meets its contract: the element has the mark of a missing quantity, or a number.
 use Rattle.field_arrays.specs.Fields.{coded}
-use borrow.Author.Rules.{rules}
 use Rattle.field_arrays.proofs.code.confidence.Goals as goal
 
 pub returns-then-is_missing : goal.returns-then-is_missing

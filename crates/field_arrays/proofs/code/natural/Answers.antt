@@ -1,7 +1,6 @@
 -- `codes::natural` meets its contract: the element is of 32 bits without a sign, or there is no quantity.
 use Rattle.ground.proofs.AnswerLaws.{shown, refuted}
 use Rattle.field_arrays.proofs.FieldLaws.{natural-given, natural-outside}
-use borrow.Author.Rules.{rules}
 use mathlib.Core.Bool.{not}
 use mathlib.Core.Path.{ap}
 use Rattle.field_arrays.proofs.code.natural.Goals as goal

@@ -4,7 +4,6 @@ use Rattle.ground.specs.declared.said.SaidCode.{SaidCode}
 use Rattle.code_arrays.specs.Answers.{PutsElements}
 use Rattle.field_arrays.specs.Fields.{said_code_outcome, said_code_elements}
 use Rattle.code_arrays.proofs.PutLaws.{puts-refused}
-use borrow.Author.Rules.{rules}
 use Rattle.field_arrays.proofs.code.put_code.Goals as goal
 
 pub returns-in-Natural : goal.returns-in-Natural

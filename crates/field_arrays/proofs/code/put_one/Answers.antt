@@ -3,7 +3,6 @@ use mathlib.Core.Path.{refl}
 use native.Mathlib.Omega.{arith}
 use Rattle.code_arrays.proofs.PutLaws.{puts-short, puts-done}
 use Rattle.code_arrays.proofs.CopyLaws.{first-stored}
-use borrow.Author.Rules.{rules}
 use Rattle.field_arrays.proofs.code.put_one.Goals as goal
 
 pub returns-then-out-lt1 : goal.returns-then-out-lt1

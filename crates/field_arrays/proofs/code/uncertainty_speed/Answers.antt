@@ -1,6 +1,5 @@
 -- `codes::uncertainty_speed` meets its contract: the element has the mark of a missing quantity, or a number.
 use Rattle.field_arrays.specs.Fields.{coded}
-use borrow.Author.Rules.{rules}
 use Rattle.field_arrays.proofs.code.uncertainty_speed.Goals as goal
 
 pub returns-then-is_missing : goal.returns-then-is_missing

@@ -1,7 +1,6 @@
 -- `quantity::byte` meets its contract: there is an element, and it holds the code.
 use native.Mathlib.Omega.{arith}
 use Rattle.field_arrays.proofs.FieldLaws.{byte-short, byte-said}
-use borrow.Author.Rules.{rules}
 use Rattle.field_arrays.proofs.quantity.byte.Goals as goal
 
 pub returns-then-code-lt1 : goal.returns-then-code-lt1

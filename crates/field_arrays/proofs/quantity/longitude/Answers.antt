@@ -2,7 +2,6 @@
 use mathlib.Core.Path.{refl}
 use native.Mathlib.Omega.{arith}
 use Rattle.field_arrays.specs.Fields.{too_short, reported}
-use borrow.Author.Rules.{rules}
 use Rattle.field_arrays.proofs.quantity.longitude.Goals as goal
 
 pub returns-then-code-lt1 : goal.returns-then-code-lt1

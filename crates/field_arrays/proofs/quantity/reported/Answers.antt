@@ -3,7 +3,6 @@ use mathlib.Core.Path.{refl, sym}
 use Rattle.ground.proofs.MatchLaws.{passed}
 use Rattle.fields.specs.Fields as field
 use Rattle.field_arrays.specs.Fields.{no_field, of_field}
-use borrow.Author.Rules.{rules}
 use Rattle.field_arrays.proofs.quantity.reported.Goals as goal
 
 pub returns-in-0 : goal.returns-in-0

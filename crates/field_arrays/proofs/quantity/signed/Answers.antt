@@ -1,7 +1,6 @@
 -- `quantity::signed` meets its contract: there are two elements, and the first is a bit.
 use native.Mathlib.Omega.{arith}
 use Rattle.field_arrays.proofs.FieldLaws.{signed-short, no_sign, signed-said}
-use borrow.Author.Rules.{rules}
 use Rattle.field_arrays.proofs.quantity.signed.Goals as goal
 
 pub returns-then-code-lt2 : goal.returns-then-code-lt2

@@ -1,7 +1,6 @@
 -- `quantity::word` meets its contract: there is an element, and it holds the code.
 use native.Mathlib.Omega.{arith}
 use Rattle.field_arrays.proofs.FieldLaws.{word-short, word-said}
-use borrow.Author.Rules.{rules}
 use Rattle.field_arrays.proofs.quantity.word.Goals as goal
 
 pub returns-then-code-lt1 : goal.returns-then-code-lt1

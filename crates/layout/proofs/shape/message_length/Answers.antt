@@ -1,6 +1,5 @@
 -- Each length is the layout table's.
 use mathlib.Core.Path.{sym}
-use borrow.Author.Rules.{rules}
 use Rattle.layout.proofs.PolygonLaws.{polygon-length}
 use Rattle.layout.proofs.shape.message_length.Goals as goal
 

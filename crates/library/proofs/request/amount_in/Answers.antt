@@ -1,7 +1,6 @@
 -- `library::request::amount_in` meets its contract: none where the element is missing, else its number, which 32 bits hold.
 use Rattle.ground.proofs.AnswerLaws.{shown, refuted}
 use Rattle.library.proofs.RequestLaws.{natural-says, no-amount}
-use borrow.Author.Rules.{rules}
 use mathlib.Core.Bool.{not}
 use mathlib.Core.Path.{ap}
 use Rattle.library.proofs.request.amount_in.Goals as goal

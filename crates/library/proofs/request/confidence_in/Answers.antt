@@ -2,7 +2,6 @@
 use mathlib.Core.Path.{subst}
 use Rattle.request_lines.proofs.AmountLaws.{no-confidence}
 use Rattle.library.specs.Requests.{IsMissing, SaysNatural, ReadsAmountElement}
-use borrow.Author.Rules.{rules}
 use Rattle.library.proofs.request.confidence_in.Goals as goal
 
 pub returns-in-Number : goal.returns-in-Number

@@ -4,7 +4,6 @@ use Rattle.code_arrays.specs.QuantityNumbers.{quantity_in}
 use Rattle.code_arrays.proofs.NumberLaws.{element-read}
 use Rattle.library.specs.Requests.{IsMissing, SaysNatural}
 use Rattle.library.proofs.RequestLaws.{number-there}
-use borrow.Author.Rules.{rules}
 use Rattle.library.proofs.request.horizontal_in.Goals as goal
 
 pub returns : goal.returns

@@ -4,7 +4,6 @@ use Rattle.code_arrays.specs.QuantityNumbers.{quantity_in}
 use Rattle.code_arrays.proofs.NumberLaws.{element-read}
 use Rattle.library.specs.Requests.{ReadsAltitudeElement, ReadsHorizontalElements, ReadsUncertaintyElement, ReadsConfidenceElement}
 use Rattle.library.proofs.RequestLaws.{read_as}
-use borrow.Author.Rules.{rules}
 use Rattle.library.proofs.request.request_in.Goals as goal
 
 pub returns-in_default : goal.returns-in_default

@@ -5,7 +5,6 @@ use native.Mathlib.Omega.{arith}
 use lib.ListN.{length}
 use Rattle.code_arrays.specs.Answers.{too_short, long_enough}
 use Rattle.library.proofs.CallLaws.{report-said}
-use borrow.Author.Rules.{rules}
 use Rattle.library.proofs.shape_calls.report_shape.Goals as goal
 
 pub returns-then-codes-lt-CODES : goal.returns-then-codes-lt-CODES

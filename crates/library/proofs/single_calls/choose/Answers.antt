@@ -4,7 +4,6 @@ use native.Mathlib.Omega.{arith}
 use Rattle.code_arrays.specs.Answers.{too_short, long_enough}
 use Rattle.library.proofs.CallLaws.{chosen-within}
 use Rattle.library.specs.Promises.{no_request, chosen}
-use borrow.Author.Rules.{rules}
 use Rattle.library.proofs.single_calls.choose.Goals as goal
 
 pub returns-then-request-lt8 : goal.returns-then-request-lt8

@@ -1,7 +1,6 @@
 -- The quantities that the elements say are coded, or are 7 after what comes before it.
 use Rattle.ground.proofs.AnswerLaws.{shown, refuted}
 use Rattle.library.proofs.CallLaws.{misfit-velocity-codes, arrived-velocity-codes}
-use borrow.Author.Rules.{rules}
 use mathlib.Core.Bool.{not}
 use mathlib.Core.Path.{ap}
 use Rattle.library.proofs.velocity_calls.coded_in.Goals as goal

@@ -4,7 +4,6 @@ use native.Mathlib.Omega.{arith}
 use Rattle.ground.specs.Answers.{unmet, met}
 use Rattle.layout.specs.declared.velocity.VelocityKind.{VelocityKind}
 use Rattle.library.specs.Promises.{KindAnswer}
-use borrow.Author.Rules.{rules}
 use Rattle.library.proofs.velocity_calls.kind_outcome.Goals as goal
 
 pub returns-in-Nothing : goal.returns-in-Nothing

@@ -2,7 +2,6 @@
 use mathlib.Core.Path.{refl, sym, ◌∙◌}
 use Rattle.ground.specs.declared.refusals.Outcome.TheVariants.{Done, Refused}
 use Rattle.code_arrays.proofs.PutLaws.{puts-by, had-room}
-use borrow.Author.Rules.{rules}
 use Rattle.library.proofs.velocity_calls.put_codes.Goals as goal
 
 pub put_velocity-requires : goal.put_velocity-requires

@@ -2,7 +2,6 @@
 use mathlib.Core.Path.{refl}
 use native.Mathlib.Omega.{arith}
 use Rattle.code_arrays.specs.Answers.{too_short, long_enough}
-use borrow.Author.Rules.{rules}
 use Rattle.library.proofs.velocity_calls.report_velocity.Goals as goal
 
 pub returns-then-codes-lt-CODES : goal.returns-then-codes-lt-CODES

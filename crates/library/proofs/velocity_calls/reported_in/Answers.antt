@@ -2,7 +2,6 @@
 use Rattle.ground.proofs.AnswerLaws.{shown, refuted}
 use Rattle.library.proofs.VelocityLaws.{held-velocity-misfit}
 use Rattle.library.proofs.CallLaws.{misfit-velocity-reports, held-velocity-reports}
-use borrow.Author.Rules.{rules}
 use mathlib.Core.Bool.{not}
 use mathlib.Core.Path.{ap}
 use Rattle.library.proofs.velocity_calls.reported_in.Goals as goal

@@ -7,7 +7,6 @@ use Rattle.code_arrays.specs.Answers.{too_short, long_enough}
 use Rattle.ground.proofs.AnswerLaws.{shown, refuted}
 use Rattle.library.proofs.VelocityLaws.{held-velocity-writes, held-velocity-misfit}
 use Rattle.library.proofs.CallLaws.{written-within, misfit-said}
-use borrow.Author.Rules.{rules}
 use mathlib.Core.Bool.{not}
 use mathlib.Core.Path.{ap}
 use Rattle.library.proofs.velocity_calls.write_velocity.Goals as goal

@@ -1,12 +1,8 @@
 -- Whether each element passed is zero.
-use Prim.Native.Nat.{ℕ, ◌-◌, ◌≤◌, ◌<◌}
-use mathlib.Core.Path.{◌≡◌}
 use native.Mathlib.Omega.{arith}
 use borrow.Author.Count.{below_more}
 use borrow.Author.Rules.{rules}
-use Rattle.ground.specs.Answers.{Decides}
 use Rattle.ground.proofs.AnswerLaws.{decided}
-use Rattle.code_arrays.specs.CodeNumbers.{element_at}
 use Rattle.limits.proofs.points.none_from.Goals.{then-codes-at-ne0, else-codes-at-ne0}
 use Rattle.limits.proofs.points.none_from.Goals as goal
 

@@ -1,12 +1,7 @@
 -- Whether each element passed is zero.
 use Prim.Native.Nat.{ℕ, ◌-◌, ◌≤◌, ◌<◌}
 use mathlib.Core.Path.{◌≡◌}
-use mathlib.Core.Logic.{⊎_elim}
-use native.Mathlib.Omega.{arith}
-use borrow.Author.Count.{below_more}
-use borrow.Author.Rules.{rules}
 use Rattle.ground.specs.Answers.{Decides}
-use Rattle.ground.proofs.AnswerLaws.{decided}
 use Rattle.code_arrays.specs.CodeNumbers.{element_at}
 use Rattle.limits.proofs.points.none_from.Given as goal
 

@@ -1,5 +1,4 @@
 -- Both parts.
-use borrow.Author.Rules.{rules}
 use Rattle.ground.proofs.AnswerLaws.{shown, refuted, decided}
 use mathlib.Core.Bool.{not}
 use mathlib.Core.Path.{ap}

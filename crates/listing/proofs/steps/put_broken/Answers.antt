@@ -9,7 +9,6 @@ use Rattle.text.specs.Text.{decimal, PutsWithin}
 use Rattle.text.proofs.OutputLaws.{decimal-most}
 use Rattle.text.proofs.WithinLaws.{within, octet-within, decimal-within, after}
 use Rattle.listing.specs.Steps.{broken_of}
-use borrow.Author.Rules.{rules}
 use Rattle.listing.proofs.steps.put_broken.Goals as goal
 
 broken-put : {x y z v w : List ℕ} {i j k l m : ℕ} (n r : ℕ) → r ≡ number_of FrameBroken → PutsWithin 20 x i (decimal n) y j → PutsWithin 3 y j (32 ∷ 45 ∷ 32 ∷ []) z k

@@ -1,5 +1,4 @@
 -- The number, the kind and the answer, a space between them, and the newline.
-use borrow.Author.Rules.{rules}
 use native.Mathlib.Omega.{arith}
 use Rattle.text.proofs.OutputLaws.{decimal-most}
 use Rattle.text.proofs.WithinLaws.{octet-within, decimal-within, after, fewer}

@@ -1,5 +1,4 @@
 -- By the frame: its line; a broken line and the end line; nothing; the end line.
-use borrow.Author.Rules.{rules}
 use native.Mathlib.Omega.{arith}
 use native.Mathlib.Nat.{add-sub_cancel_left}
 use Rattle.text.proofs.OutputLaws.{none}

@@ -1,6 +1,5 @@
 -- The sign adds 2^23 to the number.
 use native.Mathlib.Nat.{zero-add}
-use borrow.Author.Rules.{rules}
 use Rattle.octets.proofs.storing.latitude_bits.Goals as goal
 
 pub returns-then-latitude : goal.returns-then-latitude

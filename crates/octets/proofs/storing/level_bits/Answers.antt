@@ -1,6 +1,5 @@
 -- The direction adds 2^15 to the number.
 use native.Mathlib.Nat.{zero-add}
-use borrow.Author.Rules.{rules}
 use Rattle.octets.proofs.storing.level_bits.Goals as goal
 
 pub returns-then-altitude : goal.returns-then-altitude

@@ -1,5 +1,4 @@
 -- Two octets hold the direction and the number.
-use borrow.Author.Rules.{rules}
 use Rattle.octets.proofs.storing.put_altitude.Goals as goal
 
 pub returns : goal.returns

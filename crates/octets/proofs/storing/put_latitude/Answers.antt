@@ -1,5 +1,4 @@
 -- Three octets hold the sign and the number.
-use borrow.Author.Rules.{rules}
 use Rattle.octets.proofs.storing.put_latitude.Goals as goal
 
 pub returns : goal.returns

@@ -1,5 +1,4 @@
 -- Three octets set one after another.
-use borrow.Author.Rules.{rules}
 use Prim.Native.Nat.{◌+◌, suc}
 use mathlib.Core.Path.{◌≡◌}
 use native.Mathlib.Numerals.{add-one}

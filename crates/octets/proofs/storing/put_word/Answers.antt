@@ -1,5 +1,4 @@
 -- Two octets set one after another.
-use borrow.Author.Rules.{rules}
 use native.Mathlib.Numerals.{add-one}
 use native.Mathlib.Omega.{arith}
 use lib.ListN.{length-set}

@@ -3,7 +3,6 @@ use mathlib.Core.Path.{subst⁻¹}
 use Rattle.fields.specs.Fields.{latitude, longitude, said_code}
 use Rattle.one_field.specs.Coding.{TellsCoordinate}
 use Rattle.one_field.specs.declared.coding.Coordinate.{Coordinate}
-use borrow.Author.Rules.{rules}
 use Rattle.one_field.proofs.coding.coded_coordinate.Goals as goal
 
 pub returns-in-Latitude : goal.returns-in-Latitude

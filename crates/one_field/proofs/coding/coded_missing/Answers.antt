@@ -3,7 +3,6 @@ use mathlib.Core.Path.{subst⁻¹}
 use Rattle.fields.specs.Fields.{uncertainty_speed, confidence, said_code}
 use Rattle.one_field.specs.Coding.{TellsMissing}
 use Rattle.one_field.specs.declared.coding.Markable.{Markable}
-use borrow.Author.Rules.{rules}
 use Rattle.one_field.proofs.coding.coded_missing.Goals as goal
 
 pub returns-in-UncertaintySpeed : goal.returns-in-UncertaintySpeed

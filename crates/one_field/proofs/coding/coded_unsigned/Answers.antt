@@ -5,7 +5,6 @@ use Rattle.fields.specs.Fields.{said_code}
 use Rattle.fields.specs.Fields as field
 use Rattle.one_field.specs.Coding.{TellsUnsigned}
 use Rattle.one_field.specs.declared.coding.Unsigned.{Unsigned}
-use borrow.Author.Rules.{rules}
 use Rattle.one_field.proofs.coding.coded_unsigned.Goals as goal
 
 pub returns-in-Uncertainty : goal.returns-in-Uncertainty

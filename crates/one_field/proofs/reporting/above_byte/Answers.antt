@@ -1,7 +1,6 @@
 -- `one_field::reporting::above_byte` meets its contract, in each arm for the field that it matched.
 use mathlib.Core.Path.{sym, ap}
 use Rattle.one_field.specs.Reporting.{above_byte}
-use borrow.Author.Rules.{rules}
 use Rattle.one_field.proofs.reporting.above_byte.Goals as goal
 
 pub returns-in-Uncertainty : goal.returns-in-Uncertainty

@@ -1,7 +1,6 @@
 -- `one_field::reporting::above_word_lem` meets its contract, in each arm for the field that it matched.
 use mathlib.Core.Path.{sym, ap}
 use Rattle.one_field.specs.Reporting.{above_word}
-use borrow.Author.Rules.{rules}
 use Rattle.one_field.proofs.reporting.above_word.Goals as goal
 
 pub returns-in-InnerRadius : goal.returns-in-InnerRadius

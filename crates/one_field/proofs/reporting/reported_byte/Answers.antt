@@ -6,7 +6,6 @@ use Rattle.fields.specs.Fields as field
 use Rattle.one_field.specs.Reporting.{TellsByte}
 use Rattle.one_field.specs.declared.reporting.Byte.{Byte}
 use Rattle.one_field.proofs.AboveLaws.{above-byte}
-use borrow.Author.Rules.{rules}
 use Rattle.one_field.proofs.reporting.reported_byte.Goals as goal
 
 pub returns-then-n-gt255 : goal.returns-then-n-gt255

@@ -7,7 +7,6 @@ use Rattle.ground.specs.declared.said.SaidQuantity.TheVariants.{Refused}
 use Rattle.fields.specs.Fields.{latitude, altitude, said_quantity}
 use Rattle.one_field.specs.Reporting.{TellsSigned}
 use Rattle.one_field.specs.declared.reporting.Signed.{Signed}
-use borrow.Author.Rules.{rules}
 use Rattle.one_field.proofs.reporting.reported_signed.Goals as goal
 
 pub returns-then-n-gt65535 : goal.returns-then-n-gt65535

@@ -5,7 +5,6 @@ use Rattle.fields.specs.Fields.{bearing, said_quantity}
 use Rattle.one_field.specs.Reporting.{TellsWord}
 use Rattle.one_field.specs.declared.reporting.Word.{Word}
 use Rattle.one_field.proofs.AboveLaws.{above_word_lem}
-use borrow.Author.Rules.{rules}
 use Rattle.one_field.proofs.reporting.reported_word.Goals as goal
 
 pub returns-then-n-gt65535 : goal.returns-then-n-gt65535

@@ -4,7 +4,6 @@ use Rattle.ground.proofs.AnswerLaws.{refusal-back}
 use Rattle.ground.specs.declared.said.SaidCode.TheVariants.{Refused}
 use Rattle.one_field.specs.Coding.{said_by_coder}
 use Rattle.fields.specs.Fields.{included}
-use borrow.Author.Rules.{rules}
 use Rattle.one_field.proofs.said_codes.included.Goals as goal
 
 pub returns-in-Code : goal.returns-in-Code

@@ -5,7 +5,6 @@ use Rattle.ground.specs.declared.said.SaidQuantity.TheVariants.{Altitude, Refuse
 use Rattle.ground.specs.Answers.{tells}
 use Rattle.lengths.specs.Lengths.{said_altitude}
 use Rattle.lengths.specs.declared.AltitudeReported.{AltitudeReported}
-use borrow.Author.Rules.{rules}
 use Rattle.one_field.proofs.said_quantities.altitude.Goals as goal
 
 pub returns-in-Altitude : goal.returns-in-Altitude

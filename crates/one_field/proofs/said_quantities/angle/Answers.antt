@@ -6,7 +6,6 @@ use Rattle.ground.specs.Answers.{tells}
 use Rattle.angles.specs.Angles.{said_angle}
 use Rattle.angles.specs.declared.AngleReported.{AngleReported}
 use Rattle.one_field.specs.Reporting.{said_angle_number}
-use borrow.Author.Rules.{rules}
 use Rattle.one_field.proofs.said_quantities.angle.Goals as goal
 
 pub returns-in-Angle : goal.returns-in-Angle

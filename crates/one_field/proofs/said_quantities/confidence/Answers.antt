@@ -6,7 +6,6 @@ use Rattle.ground.specs.Answers.{tells}
 use Rattle.confidences.specs.Confidences.{said_confidence}
 use Rattle.confidences.specs.declared.ConfidenceReported.{ConfidenceReported}
 use Rattle.one_field.specs.Reporting.{said_confidence_number}
-use borrow.Author.Rules.{rules}
 use Rattle.one_field.proofs.said_quantities.confidence.Goals as goal
 
 pub returns-in-Confidence : goal.returns-in-Confidence

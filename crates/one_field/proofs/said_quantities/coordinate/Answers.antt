@@ -5,7 +5,6 @@ use Rattle.ground.specs.declared.said.SaidQuantity.TheVariants.{Coordinate, Refu
 use Rattle.ground.specs.Answers.{tells}
 use Rattle.coordinates.specs.Latitude.{said_coordinate}
 use Rattle.coordinates.specs.declared.CoordinateReported.{CoordinateReported}
-use borrow.Author.Rules.{rules}
 use Rattle.one_field.proofs.said_quantities.coordinate.Goals as goal
 
 pub returns-in-Coordinate : goal.returns-in-Coordinate

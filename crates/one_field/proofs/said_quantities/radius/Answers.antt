@@ -6,7 +6,6 @@ use Rattle.ground.specs.Answers.{tells}
 use Rattle.radii.specs.Radii.{said_radius}
 use Rattle.radii.specs.declared.RadiusReported.{RadiusReported}
 use Rattle.one_field.specs.Reporting.{said_length_number}
-use borrow.Author.Rules.{rules}
 use Rattle.one_field.proofs.said_quantities.radius.Goals as goal
 
 pub returns-in-Radius : goal.returns-in-Radius

@@ -1,6 +1,5 @@
 -- Every field of the blank record is set but its kind and its points, which are zero.
 use mathlib.Core.Path.{refl}
-use borrow.Author.Rules.{rules}
 use Rattle.octets.specs.Codes.{from_complement}
 use Rattle.outline_codes.proofs.outline.outlined.Goals as goal
 

@@ -1,12 +1,10 @@
 -- Each point passed has its codes in the arrays.
-use Prim.Native.Nat.{ℕ, ◌-◌, ◌≤◌, ◌<◌}
-use mathlib.Core.Path.{◌≡◌, refl, ◌∙◌}
-use mathlib.Core.Bool.{true}
+use mathlib.Core.Path.{refl, ◌∙◌}
 use native.Mathlib.Omega.{arith}
 use borrow.Author.Rules.{rules}
-use lib.ListN.{length, length-set}
+use lib.ListN.{length-set}
 use Rattle.quantities.proofs.TestLaws.{never}
-use Rattle.outline_codes.proofs.PointLaws.{CodesAt, one_more, all-points}
+use Rattle.outline_codes.proofs.PointLaws.{one_more, all-points}
 use Rattle.outline_codes.proofs.points.code_points.Goals as goal
 
 pub loop-i-init : goal.loop-i-init

@@ -1,12 +1,9 @@
 -- Each point passed has its codes in the arrays.
 use Prim.Native.Nat.{ℕ, ◌-◌, ◌≤◌, ◌<◌}
-use mathlib.Core.Path.{◌≡◌, refl, ◌∙◌}
+use mathlib.Core.Path.{◌≡◌}
 use mathlib.Core.Bool.{true}
-use native.Mathlib.Omega.{arith}
-use borrow.Author.Rules.{rules}
-use lib.ListN.{length, length-set}
-use Rattle.quantities.proofs.TestLaws.{never}
-use Rattle.outline_codes.proofs.PointLaws.{CodesAt, one_more, all-points}
+use lib.ListN.{length}
+use Rattle.outline_codes.proofs.PointLaws.{CodesAt}
 use Rattle.outline_codes.proofs.points.code_points.Given as goal
 
 abbrev pub invariant-loop-i : goal.invariant-loop-i

@@ -1,7 +1,6 @@
 -- Each code is found, or its quantity is out of range.
 use mathlib.Core.Path.{refl}
 use Rattle.outline_codes.proofs.RangeLaws.{included-code, included-out}
-use borrow.Author.Rules.{rules}
 use Rattle.outline_codes.proofs.ranges.code_ranges.Goals as goal
 
 pub returns-in_default : goal.returns-in_default

@@ -2,7 +2,6 @@
 use mathlib.Core.Path.{refl, sym, subst}
 use mathlib.Core.Bool.{Bool}
 use Rattle.outline_codes.specs.Ranges.{CodesIncluded}
-use borrow.Author.Rules.{rules}
 use Rattle.outline_codes.proofs.ranges.included_where.Goals as goal
 
 pub returns-then-arc : goal.returns-then-arc

@@ -1,6 +1,5 @@
 -- Each code is found, or its quantity is above what the largest covers.
 use mathlib.Core.Path.{refl}
-use borrow.Author.Rules.{rules}
 use Rattle.outline_codes.proofs.sizes.code_sizes.Goals as goal
 
 pub returns-in_default : goal.returns-in_default

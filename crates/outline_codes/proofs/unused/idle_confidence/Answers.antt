@@ -1,5 +1,4 @@
 -- What is used may be any confidence; one that isn't is missing.
-use borrow.Author.Rules.{rules}
 use Rattle.quantities.proofs.TestLaws.{never}
 use Rattle.outline_codes.proofs.TestLaws.{no-confidence}
 use Rattle.outline_codes.proofs.unused.idle_confidence.Goals as goal

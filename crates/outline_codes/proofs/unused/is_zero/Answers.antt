@@ -1,6 +1,5 @@
 -- Each test is one of the demands.
 use Rattle.ground.proofs.AnswerLaws.{shown, refuted, decided}
-use borrow.Author.Rules.{rules}
 use mathlib.Core.Bool.{not}
 use mathlib.Core.Path.{ap}
 use Rattle.outline_codes.proofs.unused.is_zero.Goals as goal

@@ -1,7 +1,6 @@
 -- Each kind's groups are those that the layout table gives it.
 use mathlib.Core.Path.{sym, ap, ◌∙◌}
 use Rattle.outline_codes.specs.Kinds.{uses_of}
-use borrow.Author.Rules.{rules}
 use Rattle.outline_codes.proofs.unused.used_by.Goals as goal
 
 pub returns-in-Nothing : goal.returns-in-Nothing

@@ -1,7 +1,6 @@
 -- `quantity_arrays::numbers::confidence` meets its contract: none where the element is missing, else its number.
 use Rattle.ground.specs.declared.quantity.Confidence.TheVariants as confident
 use Rattle.quantity_arrays.proofs.ArrayLaws.{absent, present}
-use borrow.Author.Rules.{rules}
 use Rattle.quantity_arrays.proofs.numbers.confidence.Goals as goal
 
 pub returns-then-is_missing : goal.returns-then-is_missing

@@ -1,6 +1,5 @@
 -- `quantity_arrays::numbers::is_optional` meets its contract: an element that is missing, or else a number of 32 bits.
 use Rattle.quantity_arrays.proofs.ArrayLaws.{optional-by}
-use borrow.Author.Rules.{rules}
 use Rattle.quantity_arrays.proofs.numbers.is_optional.Goals as goal
 
 pub returns-then-is_missing : goal.returns-then-is_missing

@@ -1,6 +1,5 @@
 -- `quantity_arrays::numbers::octet` meets its contract: a number that is below zero or over 255 is 255.
 use Rattle.quantity_arrays.proofs.ArrayLaws.{octet-minus, octet-over, octet-under}
-use borrow.Author.Rules.{rules}
 use Rattle.quantity_arrays.proofs.numbers.octet.Goals as goal
 
 pub returns-then-parts : goal.returns-then-parts

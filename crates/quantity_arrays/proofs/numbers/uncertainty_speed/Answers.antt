@@ -2,7 +2,6 @@
 use Prim.Native.Nat.{ℕ}
 use Rattle.ground.specs.declared.quantity.UncertaintySpeed.TheVariants as uncertain
 use Rattle.quantity_arrays.proofs.ArrayLaws.{absent, present}
-use borrow.Author.Rules.{rules}
 use Rattle.quantity_arrays.proofs.numbers.uncertainty_speed.Goals as goal
 
 pub returns-then-is_missing : goal.returns-then-is_missing

@@ -1,12 +1,9 @@
 -- After each turn there is one zero more.
-use mathlib.Core.Path.{◌≡◌, refl, ap, ◌∙◌}
-use Prim.Native.Nat.{ℕ, ◌+◌, ◌*◌, ◌-◌, ◌≤◌}
-use native.Mathlib.Omega.{arith}
-use lib.ListN.{length, length-set, replicate}
+use mathlib.Core.Path.{◌≡◌}
+use Prim.Native.Nat.{◌+◌, ◌*◌, ◌-◌, ◌≤◌}
+use lib.ListN.{length, replicate}
 use lib.IntN.{pos}
 use lib.Seq.{sets}
-use Rattle.code_arrays.proofs.ClearLaws.{none-cleared, one-cleared}
-use borrow.Author.Rules.{rules}
 use Rattle.quantity_arrays.proofs.shape.clear_from.Given as goal
 
 abbrev pub invariant-loop-i : goal.invariant-loop-i

@@ -1,10 +1,7 @@
 -- Each element up to the place is a number of 32 bits; a turn adds one, or finds one that is none.
-use borrow.Author.Rules.{rules}
-use Prim.Native.Nat.{ℕ, ◌-◌, ◌≤◌, ◌<◌}
 use native.Mathlib.Omega.{arith}
 use borrow.Author.Count.{below_more}
 use Rattle.ground.proofs.AnswerLaws.{shown, refuted}
-use Rattle.code_arrays.specs.QuantityNumbers.{quantity_in, Natural32}
 use Rattle.code_arrays.proofs.NumberLaws.{element-read}
 use mathlib.Core.Bool.{not}
 use mathlib.Core.Path.{ap}

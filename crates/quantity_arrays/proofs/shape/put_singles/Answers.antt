@@ -4,7 +4,6 @@ use mathlib.Core.List.{List, ◌++◌}
 use lib.IntN.{ℤ}
 use lib.ListN.{length, drop}
 use lib.Seq.{sets-eq}
-use borrow.Author.Rules.{rules}
 use native.Mathlib.Omega.{arith}
 use Rattle.quantity_arrays.specs.Shapes.{single_quantity_elements}
 use Rattle.quantity_arrays.proofs.shape.put_singles.Goals as goal

@@ -1,7 +1,6 @@
 -- `quantity_arrays::shape::shape_arrives` meets its contract, element by element.
 use Rattle.ground.proofs.AnswerLaws.{shown, refuted, decided}
 use Rattle.code_arrays.proofs.NumberLaws.{element-read}
-use borrow.Author.Rules.{rules}
 use mathlib.Core.Bool.{not}
 use mathlib.Core.Path.{ap}
 use Rattle.quantity_arrays.proofs.shape.shape_arrives.Goals as goal

@@ -1,7 +1,6 @@
 -- `quantity_arrays::velocity::elements_of` meets its contract: each element is stored as it is.
 use mathlib.Core.Path.{ap, ◌∙◌}
 use mathlib.Core.List.{◌∷◌, []}
-use native.Mathlib.Omega.{arith}
 use lib.IntN.{pos}
 use mir.Syntax.{w32}
 use mir.Facts.{to_z-of_z}

@@ -3,7 +3,6 @@ use mathlib.Core.Path.{ap, ◌∙◌}
 use mathlib.Core.List.{List, ◌++◌}
 use lib.IntN.{ℤ}
 use lib.ListN.{length, drop}
-use borrow.Author.Rules.{rules}
 use Rattle.quantity_arrays.proofs.velocity.put_velocity_quantities.Goals as goal
 
 pub returns : goal.returns

@@ -1,6 +1,5 @@
 -- `radii::rows::in_row` meets its contract: each half is the one that has the place.
 use Rattle.radii.proofs.RowLaws.{by-halves}
-use borrow.Author.Rules.{rules}
 use Rattle.radii.proofs.rows.in_row.Goals as goal
 
 pub returns : goal.returns

@@ -1,6 +1,5 @@
 -- `radii::rows::row_of` meets its contract: each arm's place is eight times its row.
 use native.Mathlib.Omega.{arith}
-use borrow.Author.Rules.{rules}
 use Rattle.radii.proofs.RowLaws.{moved, no_other}
 use Rattle.radii.proofs.rows.row_of.Goals as goal
 

@@ -6,7 +6,6 @@ use native.Mathlib.Omega.{arith}
 use lib.ListN.{get_or}
 use Rattle.radii.proofs.RowLaws.{in_row}
 use Rattle.radii.specs.Tables.{entries_in}
-use borrow.Author.Rules.{rules}
 use Rattle.radii.proofs.tables.entry.Goals as goal
 
 pub returns : goal.returns

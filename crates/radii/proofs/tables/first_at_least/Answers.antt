@@ -2,7 +2,6 @@
 use native.Mathlib.Omega.{arith}
 use Rattle.radii.proofs.RowLaws.{first-in-row}
 use Rattle.radii.proofs.TableLaws.{rises}
-use borrow.Author.Rules.{rules}
 use Rattle.radii.proofs.tables.first_at_least.Goals as goal
 
 pub overflow_add-result : goal.overflow_add-result

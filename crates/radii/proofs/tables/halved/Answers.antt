@@ -7,7 +7,6 @@ use lib.ListN.{get_or}
 use Rattle.radii.proofs.RowLaws.{last_of}
 use Rattle.radii.specs.Tables.{entries_in}
 use Rattle.radii.proofs.TableLaws.{rises}
-use borrow.Author.Rules.{rules}
 use Rattle.radii.proofs.tables.halved.Goals as goal
 
 pub returns-then-last-x : goal.returns-then-last-x

@@ -1,5 +1,4 @@
 -- `radii::tables::row_of` meets its contract: antt computes that each constant table is the list of its whole parts.
-use borrow.Author.Rules.{rules}
 use Rattle.radii.specs.Tables.{entries_in}
 use Rattle.radii.proofs.tables.row_of.Goals as goal
 

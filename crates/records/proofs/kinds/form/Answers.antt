@@ -4,7 +4,6 @@ use native.Mathlib.Omega.{arith}
 use Rattle.ground.specs.Answers.{unmet, met}
 use Rattle.layout.specs.declared.shape.Kind.TheVariants.{Point, Circle, Ellipse, AltitudePoint, AltitudeEllipsoid, Arc}
 use Rattle.records.proofs.FormLaws.{nothing-form, plain_form, polygon-form}
-use borrow.Author.Rules.{rules}
 use Rattle.records.proofs.kinds.form.Goals as goal
 
 pub returns-then-count-lt3 : goal.returns-then-count-lt3

@@ -1,5 +1,4 @@
 -- The form's refusals, and the others.
-use borrow.Author.Rules.{rules}
 use Rattle.records.proofs.FormLaws.{formed, form-refused}
 use Rattle.records.proofs.ShapeLaws.{refused-with}
 use Rattle.records.proofs.shapes.code_shape.Goals as goal

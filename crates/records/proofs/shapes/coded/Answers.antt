@@ -1,7 +1,6 @@
 -- Each answer by its law.
 use native.Mathlib.Omega.{arith}
 use borrow.Author.Tests.{not-true, not-false}
-use borrow.Author.Rules.{rules}
 use Rattle.ground.proofs.AnswerLaws.{shown, refuted}
 use Rattle.outline_codes.proofs.PointLaws.{codes-kept}
 use Rattle.records.proofs.ShapeLaws.{in-range, rest-zero, ranges-kept, points_kept, shape-done, out_of_range, too_large}

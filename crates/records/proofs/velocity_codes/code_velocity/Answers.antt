@@ -1,6 +1,5 @@
 -- Each answer by its law.
 use mathlib.Core.Path.{refl}
-use borrow.Author.Rules.{rules}
 use Rattle.ground.proofs.AnswerLaws.{shown, refuted}
 use Rattle.records.proofs.VelocityLaws.{listed-kind, in-range, velocity-done, nothing-refused, rest-refused, bearing-refused, uncertainty-refused, vertical-refused}
 use mathlib.Core.Bool.{not}

@@ -1,5 +1,4 @@
 -- What is used may be any uncertainty; one that isn't is the speed zero, and not missing.
-use borrow.Author.Rules.{rules}
 use Rattle.quantities.proofs.TestLaws.{never}
 use Rattle.records.proofs.VelocityTestLaws.{idle-speed, no-missing}
 use Rattle.records.proofs.velocity_zeros.idle_speed.Goals as goal

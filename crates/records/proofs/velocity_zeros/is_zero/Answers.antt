@@ -1,6 +1,5 @@
 -- Each test is one of the demands, of what the layout table gives the kind.
 use Rattle.ground.proofs.AnswerLaws.{shown, refuted, decided}
-use borrow.Author.Rules.{rules}
 use mathlib.Core.Bool.{not}
 use mathlib.Core.Path.{ap}
 use Rattle.records.proofs.velocity_zeros.is_zero.Goals as goal

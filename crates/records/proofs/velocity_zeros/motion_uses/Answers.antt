@@ -1,7 +1,6 @@
 -- Each kind's places are those that the layout table gives it.
 use mathlib.Core.Path.{sym, ap}
 use Rattle.records.specs.VelocityUnused.{motion_uses_of}
-use borrow.Author.Rules.{rules}
 use Rattle.records.proofs.velocity_zeros.motion_uses.Goals as goal
 
 pub returns-in-Nothing : goal.returns-in-Nothing

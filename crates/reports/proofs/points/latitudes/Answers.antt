@@ -1,9 +1,7 @@
 -- After i turns the first i latitudes are reported, and the others zero.
-use Prim.Native.Nat.{◌-◌, ◌≤◌}
 use mathlib.Core.Path.{◌≡◌}
 use borrow.Author.Rules.{rules}
 use native.Mathlib.Omega.{arith}
-use Rattle.field_reports.specs.Points.{LatitudesReported}
 use Rattle.field_reports.proofs.FillLaws.{none_filled, one_more}
 use Rattle.reports.proofs.points.latitudes.Goals as goal
 

@@ -1,6 +1,5 @@
 -- A dash, or a number, or neither.
 use Rattle.text.proofs.SaysLaws.{unsigned-says, unsigned-none, unsigned-unread}
-use borrow.Author.Rules.{rules}
 use Rattle.request_lines.proofs.amounts.amount_of.Goals as goal
 
 pub returns-then-mark-eq-DASH : goal.returns-then-mark-eq-DASH

@@ -2,7 +2,6 @@
 use mathlib.Core.Path.{subst}
 use Rattle.text.specs.declared.numeral.Numeral.{Numeral}
 use Rattle.text.specs.Widths.{AsSigned64}
-use borrow.Author.Rules.{rules}
 use Rattle.request_lines.proofs.amounts.coordinate_of.Goals as goal
 
 pub returns : goal.returns

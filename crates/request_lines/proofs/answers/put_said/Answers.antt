@@ -7,7 +7,6 @@ use Rattle.text.proofs.WithinLaws.{within, octet-within, decimal-within, after, 
 use Rattle.text.specs.Text.{octets_text}
 use Rattle.text.proofs.OctetLaws.{octets-length}
 use Rattle.request_lines.specs.Answers.{said_text}
-use borrow.Author.Rules.{rules}
 use Rattle.request_lines.proofs.answers.put_said.Goals as goal
 
 pub returns-in_default : goal.returns-in_default

@@ -2,7 +2,6 @@
 use mathlib.Core.Path.{sym, subst}
 use native.Mathlib.Omega.{arith}
 use lib.Dec.{T}
-use borrow.Author.Rules.{rules}
 use Rattle.request_lines.proofs.entries.goes_on.Goals as goal
 
 pub returns-then-end-line : goal.returns-then-end-line

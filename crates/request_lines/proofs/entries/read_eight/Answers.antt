@@ -1,9 +1,7 @@
 -- Each field ends where the next space stands, and the eighth where the line ends.
-use Prim.Native.Nat.{◌-◌, ◌≤◌}
 use mathlib.Core.Path.{◌≡◌}
 use native.Mathlib.Omega.{arith}
-use Rattle.request_lines.proofs.PartedLaws.{Parted, parted-none, parted-more, too_few, too_many, parted-last}
-use borrow.Author.Rules.{rules}
+use Rattle.request_lines.proofs.PartedLaws.{parted-none, parted-more, too_few, too_many, parted-last}
 use Rattle.request_lines.proofs.entries.read_eight.Goals as goal
 
 pub loop-number-init : goal.loop-number-init

@@ -2,7 +2,6 @@
 use native.Mathlib.Omega.{arith}
 use Rattle.text.specs.LineFields.{field_at}
 use Rattle.request_lines.proofs.AskingLaws.{horizontal-reads}
-use borrow.Author.Rules.{rules}
 use Rattle.request_lines.proofs.request.horizontal_in.Goals as goal
 
 pub returns : goal.returns

@@ -1,5 +1,4 @@
 -- By what the first field holds.
-use borrow.Author.Rules.{rules}
 use Rattle.request_lines.proofs.request.horizontal_of.Goals as goal
 
 pub returns-in-Number : goal.returns-in-Number

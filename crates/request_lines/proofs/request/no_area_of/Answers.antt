@@ -1,5 +1,4 @@
 -- By what the two fields hold.
-use borrow.Author.Rules.{rules}
 use Rattle.request_lines.proofs.request.no_area_of.Goals as goal
 
 pub returns-in-Number : goal.returns-in-Number

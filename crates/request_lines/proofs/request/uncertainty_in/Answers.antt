@@ -5,7 +5,6 @@ use Rattle.request_lines.specs.declared.amounts.Amount.{Amount}
 use Rattle.text.specs.LineFields.{field_at}
 use Rattle.request_lines.specs.Reading.{ReadsAmount}
 use Rattle.request_lines.proofs.AskingLaws.{no-uncertainty}
-use borrow.Author.Rules.{rules}
 use Rattle.request_lines.proofs.request.uncertainty_in.Goals as goal
 
 pub returns-in-Number : goal.returns-in-Number

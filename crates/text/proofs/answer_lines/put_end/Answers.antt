@@ -1,5 +1,5 @@
 -- The word, the number and the newline, one after the other.
-use Rattle.std.proofs.Common.{arith, rules}
+use Rattle.std.proofs.Common.{arith}
 use Rattle.text.proofs.OutputLaws.{decimal-most}
 use Rattle.text.specs.AnswerLines.{end_text}
 use Rattle.text.proofs.WithinLaws.{within, octet-within, decimal-within, after, fewer}

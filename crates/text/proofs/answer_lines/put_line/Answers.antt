@@ -1,5 +1,5 @@
 -- The number, a space, the answer and the newline, one after the other.
-use Rattle.std.proofs.Common.{arith, rules}
+use Rattle.std.proofs.Common.{arith}
 use Rattle.text.proofs.OutputLaws.{decimal-most}
 use Rattle.text.specs.AnswerLines.{line_text}
 use Rattle.text.proofs.WithinLaws.{octet-within, decimal-within, after}

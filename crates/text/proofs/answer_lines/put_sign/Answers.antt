@@ -1,5 +1,5 @@
 -- The sign's digit, between a 0 and the number.
-use Rattle.std.proofs.Common.{arith, rules}
+use Rattle.std.proofs.Common.{arith}
 use Rattle.text.specs.AnswerLines.{sign_text}
 use Rattle.text.proofs.WithinLaws.{within}
 use Rattle.text.proofs.answer_lines.put_sign.Goals as goal

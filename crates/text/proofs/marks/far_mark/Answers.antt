@@ -1,6 +1,5 @@
 -- None of the octets that the loop has passed is the mark.
-use Rattle.std.proofs.Common.{◌-◌, ◌≤◌, length, arith, rules}
-use Rattle.text.specs.Marks.{NoMark}
+use Rattle.std.proofs.Common.{arith}
 use Rattle.text.proofs.MarkLaws.{none-then-none, none-then-first}
 use Rattle.text.proofs.marks.far_mark.Goals as goal
 

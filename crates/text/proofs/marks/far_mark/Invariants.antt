@@ -1,7 +1,6 @@
 -- None of the octets that the loop has passed is the mark.
-use Rattle.std.proofs.Common.{◌-◌, ◌≤◌, length, arith, rules}
+use Rattle.std.proofs.Common.{◌-◌, ◌≤◌, length}
 use Rattle.text.specs.Marks.{NoMark}
-use Rattle.text.proofs.MarkLaws.{none-then-none, none-then-first}
 use Rattle.text.proofs.marks.far_mark.Given as goal
 
 abbrev pub invariant-loop-i : goal.invariant-loop-i

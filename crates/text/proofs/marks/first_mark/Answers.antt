@@ -1,5 +1,5 @@
 -- None of the places that the loop has passed holds the mark.
-use Rattle.std.proofs.Common.{◌≡◌, ℕ, ◌-◌, ◌<◌, ◌≤◌, length, get_or, rules, below_more}
+use Rattle.std.proofs.Common.{rules, below_more}
 use Rattle.text.proofs.marks.first_mark.Goals as goal
 
 pub loop-i-preserved : goal.loop-i-preserved

@@ -1,5 +1,5 @@
 -- None of the places that the loop has passed holds the mark.
-use Rattle.std.proofs.Common.{◌≡◌, ℕ, ◌-◌, ◌<◌, ◌≤◌, length, get_or, rules, below_more}
+use Rattle.std.proofs.Common.{◌≡◌, ℕ, ◌-◌, ◌<◌, ◌≤◌, length, get_or}
 use Rattle.text.proofs.marks.first_mark.Given as goal
 
 abbrev pub invariant-loop-i : goal.invariant-loop-i

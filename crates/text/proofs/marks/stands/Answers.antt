@@ -1,6 +1,5 @@
 -- What was not found in the octets that the loop has passed is not there.
-use Rattle.std.proofs.Common.{◌≡◌, ◌+◌, ◌-◌, ◌≤◌, false, T, sym, ◌∙◌, subst, ⊎_elim, arith, rules, below_more}
-use Rattle.text.specs.Marks.{NoMark}
+use Rattle.std.proofs.Common.{◌+◌, T, sym, ◌∙◌, subst, arith, below_more}
 use Rattle.text.proofs.marks.stands.Goals.{then-s-from, else-s-from}
 use Rattle.text.proofs.marks.stands.Goals as goal
 

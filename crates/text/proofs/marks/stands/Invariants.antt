@@ -1,5 +1,5 @@
 -- What was not found in the octets that the loop has passed is not there.
-use Rattle.std.proofs.Common.{◌≡◌, ◌+◌, ◌-◌, ◌≤◌, false, T, sym, ◌∙◌, subst, ⊎_elim, arith, rules, below_more}
+use Rattle.std.proofs.Common.{◌≡◌, ◌+◌, ◌-◌, ◌≤◌, false}
 use Rattle.text.specs.Marks.{NoMark}
 use Rattle.text.proofs.marks.stands.Given as goal
 

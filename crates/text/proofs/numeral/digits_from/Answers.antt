@@ -1,6 +1,5 @@
 -- The loop has passed a row of digits, and grown is one digit more.
-use Rattle.std.proofs.Common.{◌-◌, ◌≤◌, length, arith, rules}
-use Rattle.text.specs.Numerals.{DigitRow}
+use Rattle.std.proofs.Common.{arith}
 use Rattle.text.proofs.NumeralLaws.{value, digit, no_digit, row-none, row_more}
 use Rattle.text.proofs.numeral.digits_from.Goals as goal
 

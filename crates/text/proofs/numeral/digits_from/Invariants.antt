@@ -1,7 +1,6 @@
 -- The loop has passed a row of digits, and grown is one digit more.
-use Rattle.std.proofs.Common.{◌-◌, ◌≤◌, length, arith, rules}
+use Rattle.std.proofs.Common.{◌-◌, ◌≤◌, length}
 use Rattle.text.specs.Numerals.{DigitRow}
-use Rattle.text.proofs.NumeralLaws.{value, digit, no_digit, row-none, row_more}
 use Rattle.text.proofs.numeral.digits_from.Given as goal
 
 abbrev pub invariant-loop-i : goal.invariant-loop-i

@@ -1,5 +1,5 @@
 -- By the first octet: none, a minus sign, another.
-use Rattle.std.proofs.Common.{◌∙◌, arith, rules}
+use Rattle.std.proofs.Common.{◌∙◌, arith}
 use Rattle.text.proofs.NumeralLaws.{empty, minus, plain}
 use Rattle.text.proofs.numeral.number_in.Goals as goal
 

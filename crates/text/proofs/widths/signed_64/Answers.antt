@@ -1,5 +1,5 @@
 -- `text::widths::signed_64` meets its contract: on each path the number is known, and whether 64 bits hold it.
-use Rattle.std.proofs.Common.{arith, w64, rules}
+use Rattle.std.proofs.Common.{arith, w64}
 use Rattle.text.proofs.WidthLaws.{means-zero, means-plus, means-minus, no_number, no-fit, plus-held, minus-held}
 use Rattle.text.proofs.widths.signed_64.Goals as goal
 

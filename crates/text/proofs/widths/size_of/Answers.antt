@@ -1,5 +1,4 @@
 -- `text::widths::size_of` meets its contract: on each path the number is known.
-use Rattle.std.proofs.Common.{rules}
 use Rattle.text.proofs.WidthLaws.{means-zero, means-plus, is_below}
 use Rattle.text.proofs.widths.size_of.Goals as goal
 

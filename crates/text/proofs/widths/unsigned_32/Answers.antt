@@ -1,5 +1,5 @@
 -- `text::widths::unsigned_32` meets its contract: on each path the number is known, and whether 32 bits hold it.
-use Rattle.std.proofs.Common.{ap, arith, rules}
+use Rattle.std.proofs.Common.{ap, arith}
 use lib.Signed.{mag}
 use Rattle.text.proofs.WidthLaws.{means-zero, means-plus, means-minus, means-one, no_number, not-below}
 use Rattle.text.proofs.widths.unsigned_32.Goals as goal

@@ -10,7 +10,7 @@ use Rattle.layout.specs.Layout.{velocity_rows}
 use Rattle.layout.specs.Demands.{InFields}
 use Rattle.layout.specs.Velocities.{velocity_value_of}
 use Rattle.velocity_octets.specs.VelocityOctets.{VelocityInFields}
-use Rattle.velocities.proofs.UnusedLaws.{Typed, unlisted, horizontal-in, vertical-in, uncertain-in, all_in, horizontal-zero, vertical-zero, uncertain-zero}
+use Rattle.velocities.proofs.UnusedLaws.{unlisted, horizontal-in, vertical-in, uncertain-in, all_in, horizontal-zero, vertical-zero, uncertain-zero}
 use Rattle.velocities.proofs.answers.in_fields.Goals as goal
 
 of-kind : (x : Velocity) (b : Bool) (k : VelocityKind) → x.kind ≡ k → Decides b (InFields (velocity_rows k) (velocity_value_of x)) → Decides b (VelocityInFields x)

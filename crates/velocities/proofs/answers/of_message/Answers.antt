@@ -2,7 +2,6 @@
 use mathlib.Core.Path.{refl}
 use native.Mathlib.Omega.{arith}
 use Rattle.ground.specs.Answers.{unmet, met}
-use borrow.Author.Rules.{rules}
 use Rattle.velocities.proofs.answers.of_message.Goals as goal
 
 pub returns-then-whole-eq0 : goal.returns-then-whole-eq0

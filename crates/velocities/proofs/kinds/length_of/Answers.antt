@@ -1,5 +1,4 @@
 -- Each length is the layout table's.
-use borrow.Author.Rules.{rules}
 use Rattle.velocities.proofs.kinds.length_of.Goals as goal
 
 pub returns-in-Nothing : goal.returns-in-Nothing

@@ -1,6 +1,5 @@
 use native.Mathlib.Omega.{arith}
 use Rattle.velocity_octets.proofs.SizeLaws.{bit-lt}
-use borrow.Author.Rules.{rules}
 use Rattle.velocity_octets.proofs.message.first_word.Goals as goal
 
 pub overflow_mul-first-2 : goal.overflow_mul-first-2

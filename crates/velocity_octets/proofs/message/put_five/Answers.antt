@@ -1,5 +1,4 @@
 -- Stores one after another.
-use borrow.Author.Rules.{rules}
 use Rattle.velocity_octets.proofs.message.put_five.Goals as goal
 
 pub returns : goal.returns

@@ -1,5 +1,4 @@
 -- Each kind's octets, by its law.
-use borrow.Author.Rules.{rules}
 use mathlib.Core.Path.{refl}
 use native.Mathlib.Omega.{arith}
 use Rattle.layout.specs.declared.velocity.VelocityKind.TheVariants.{Horizontal, HorizontalVertical, HorizontalUncertain, HorizontalVerticalUncertain}

@@ -1,5 +1,4 @@
 use Rattle.velocity_octets.proofs.FirstOctets.{bearing-in}
-use borrow.Author.Rules.{rules}
 use Rattle.velocity_octets.proofs.record.motion.Goals as goal
 
 pub returns : goal.returns

@@ -1,5 +1,4 @@
 -- The motion, the vertical speed in two kinds, and the uncertainties, each where the kind's rows have it.
-use borrow.Author.Rules.{rules}
 use Prim.Native.Nat.{ℕ}
 use mathlib.Core.Path.{◌≡◌, ap, sym, subst, ◌∙◌}
 use mathlib.Core.List.{List}

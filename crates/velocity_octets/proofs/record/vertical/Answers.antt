@@ -1,5 +1,4 @@
 use Rattle.velocity_octets.proofs.FirstOctets.{down-in}
-use borrow.Author.Rules.{rules}
 use Rattle.velocity_octets.proofs.record.vertical.Goals as goal
 
 pub returns : goal.returns

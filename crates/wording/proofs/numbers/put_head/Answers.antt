@@ -3,7 +3,6 @@ use native.Mathlib.Omega.{arith}
 use Rattle.text.proofs.OutputLaws.{decimal-most}
 use Rattle.wording.specs.Numbers.{head_text}
 use Rattle.text.proofs.WithinLaws.{within, decimal-within, after}
-use borrow.Author.Rules.{rules}
 use Rattle.wording.proofs.numbers.put_head.Goals as goal
 
 pub put_short-requires : goal.put_short-requires

@@ -4,7 +4,6 @@ use Rattle.text.proofs.OutputLaws.{decimal-most}
 use Rattle.text.specs.Text.{signed_decimal}
 use Rattle.wording.specs.Numbers.{number_text}
 use Rattle.text.proofs.WithinLaws.{octet-within, decimal-within, after}
-use borrow.Author.Rules.{rules}
 use Rattle.wording.proofs.numbers.put_natural.Goals as goal
 
 pub put_decimal-requires : goal.put_decimal-requires

@@ -5,7 +5,6 @@ use Rattle.quantities.specs.Places as place
 use Rattle.quantities.proofs.HeldLaws.{shape-held}
 use Rattle.text.proofs.WithinLaws.{after, fewer}
 use Rattle.wording.proofs.ShapeTextLaws.{reported-at}
-use borrow.Author.Rules.{rules}
 use Rattle.wording.proofs.shape_text.put_arc.Goals as goal
 
 pub reported_inner_radius-requires : goal.reported_inner_radius-requires

@@ -2,7 +2,6 @@
 use Rattle.fields.specs.Fields as field
 use Rattle.text.proofs.WithinLaws.{after}
 use Rattle.wording.proofs.NumberLaws.{reported}
-use borrow.Author.Rules.{rules}
 use Rattle.wording.proofs.shape_text.put_axes.Goals as goal
 
 pub returns : goal.returns

@@ -5,7 +5,6 @@ use Rattle.fields.specs.Fields as field
 use Rattle.wording.specs.Numbers.{quantity_text}
 use Rattle.wording.proofs.NumberLaws.{worded, reported}
 use Rattle.text.proofs.WithinLaws.{within}
-use borrow.Author.Rules.{rules}
 use Rattle.wording.proofs.shape_text.put_confidence.Goals as goal
 
 pub confidence-requires : goal.confidence-requires

@@ -1,15 +1,9 @@
 -- A point more at each turn.
 use Prim.Native.Nat.{◌-◌, ◌*◌, ◌≤◌}
-use mathlib.Core.Path.{◌≡◌, refl, ◌∙◌}
-use native.Mathlib.Omega.{arith}
+use mathlib.Core.Path.{◌≡◌}
 use lib.ListN.{length}
 use Rattle.text.specs.Text.{PutsWithin}
-use Rattle.text.proofs.OutputLaws.{none}
 use Rattle.wording.specs.ShapeTexts.{points_text}
-use Rattle.text.proofs.WithinLaws.{within, after, fewer}
-use Rattle.wording.proofs.NumberLaws.{worded}
-use Rattle.wording.proofs.ShapeTextLaws.{one_more}
-use borrow.Author.Rules.{rules}
 use Rattle.wording.proofs.shape_text.put_points.Given as goal
 
 abbrev pub invariant-loop-i : goal.invariant-loop-i

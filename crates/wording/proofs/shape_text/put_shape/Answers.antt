@@ -1,7 +1,6 @@
 -- The head; then the count and the points, or the position and what follows it.
 use Prim.Native.Nat.{suc}
 use mathlib.Core.Path.{ap, ◌∙◌}
-use mathlib.Core.List.{[], ◌∷◌}
 use native.Mathlib.Omega.{arith}
 use Rattle.layout.specs.Layout.{type_of}
 use Rattle.quantities.specs.Places as place
@@ -10,7 +9,6 @@ use Rattle.wording.specs.Numbers.{head_text}
 use Rattle.text.proofs.WithinLaws.{after}
 use Rattle.wording.proofs.NumberLaws.{worded}
 use Rattle.wording.proofs.ShapeTextLaws.{fixed-text, points-text}
-use borrow.Author.Rules.{rules}
 use Rattle.wording.proofs.shape_text.put_shape.Goals as goal
 
 pub type_number-requires : goal.type_number-requires

@@ -5,7 +5,6 @@ use Rattle.fields.specs.Fields as field
 use Rattle.wording.specs.Numbers.{quantity_text}
 use Rattle.wording.proofs.NumberLaws.{worded, reported}
 use Rattle.text.proofs.WithinLaws.{within}
-use borrow.Author.Rules.{rules}
 use Rattle.wording.proofs.velocity_text.put_uncertainty.Goals as goal
 
 pub reported_uncertainty_speed-requires : goal.reported_uncertainty_speed-requires

@@ -8,7 +8,6 @@ use Rattle.wording.specs.Numbers.{head_text}
 use Rattle.text.proofs.WithinLaws.{after}
 use Rattle.wording.proofs.NumberLaws.{worded, reported}
 use Rattle.wording.proofs.VelocityTextLaws.{motion-text}
-use borrow.Author.Rules.{rules}
 use Rattle.wording.proofs.velocity_text.put_velocity.Goals as goal
 
 pub velocity_type_number-requires : goal.velocity_type_number-requires
