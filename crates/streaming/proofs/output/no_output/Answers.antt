@@ -1,0 +1,6 @@
+-- Nothing is put, answered or written.
+use Rattle.std.proofs.Common.{rules}
+use Rattle.streaming.proofs.output.no_output.Goals as goal
+
+pub returns : goal.returns
+returns c = rw c.unwritten-sink.ensures
