@@ -5,7 +5,9 @@ use std::thread;
 // No call is made so often.
 pub const MOST_TRIES: u64 = 4611686018427387904;
 
-// The system's number for a call that a signal cut short.
+// The system's numbers for no error, and for a call that a signal cut short.
+const NO_ERROR: i32 = 0;
+
 const CUT_SHORT: i32 = 4;
 
 // Whether the call that failed is to be made again: a signal came in between, or it would have had to wait, which is done here.
@@ -18,6 +20,11 @@ pub fn again(error: Error) -> bool {
         }
         _ => false,
     }
+}
+
+// What is said of a write that took nothing and did not say why.
+pub fn nothing_taken() -> Error {
+    Error::from_raw_os_error(NO_ERROR)
 }
 
 // What is said where the tries of a call are used up.

@@ -75,14 +75,14 @@ fn write_some(rt: &HostRuntime, text: &[u8], done: usize) -> Progress
     requires { done ≤ length text.now }
     ensures { WroteSome (length text.now) result }
 {
-    match rt.stdout().write_some(&text[done..]) {
-        Ok(put) => Progress::Done(done + put),
-        Err(error) => {
-            if calls::again(error) {
-                return Progress::Done(done);
-            }
-            calls::fail(rt, "gad: standard output", error);
-            Progress::Lost
-        }
+    let error = match rt.stdout().write_some(&text[done..]) {
+        Ok(0) => calls::nothing_taken(),
+        Ok(put) => return Progress::Done(done + put),
+        Err(error) => error,
+    };
+    if calls::again(error) {
+        return Progress::Done(done);
     }
+    calls::fail(rt, "gad: standard output", error);
+    Progress::Lost
 }

@@ -1,5 +1,5 @@
 -- The first i octets are moved, and those from place i on are as they were.
-use Rattle.std.proofs.Common.{◌≡◌, ◌-◌, ◌≤◌, length, take, drop, refl, arith, length-set, rules}
+use Rattle.std.proofs.Common.{◌≡◌, ◌-◌, refl, arith, length-set}
 use Rattle.streaming.proofs.Moves.{moved, later}
 use Rattle.streaming.proofs.block.shift.Goals as goal
 

@@ -1,6 +1,5 @@
 -- The first i octets are moved, and those from place i on are as they were.
-use Rattle.std.proofs.Common.{◌≡◌, ◌-◌, ◌≤◌, length, take, drop, refl, arith, length-set, rules}
-use Rattle.streaming.proofs.Moves.{moved, later}
+use Rattle.std.proofs.Common.{◌≡◌, ◌-◌, ◌≤◌, length, take, drop}
 use Rattle.streaming.proofs.block.shift.Given as goal
 
 abbrev pub invariant-loop-i : goal.invariant-loop-i

@@ -1,5 +1,5 @@
 -- What was dropped made the line long.
-use Rattle.std.proofs.Common.{T, sym, ◌∙◌, subst, rules}
+use Rattle.std.proofs.Common.{T, sym, ◌∙◌, subst}
 use Rattle.streaming.proofs.input.is_long.Goals as goal
 
 pub returns-then-dropped : goal.returns-then-dropped

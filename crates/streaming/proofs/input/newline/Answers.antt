@@ -1,5 +1,5 @@
 -- The search goes through what was read.
-use Rattle.std.proofs.Common.{◌≡◌, ◌-◌, arith, rules}
+use Rattle.std.proofs.Common.{◌≡◌, ◌-◌, arith}
 use Rattle.streaming.proofs.input.newline.Goals as goal
 
 pub returns : goal.returns

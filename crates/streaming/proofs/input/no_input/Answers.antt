@@ -1,5 +1,4 @@
 -- Nothing is read, and there is no line.
-use Rattle.std.proofs.Common.{rules}
 use Rattle.streaming.proofs.input.no_input.Goals as goal
 
 pub returns : goal.returns

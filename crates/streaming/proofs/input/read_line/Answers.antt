@@ -1,7 +1,6 @@
 -- The search stands where reads in a row and what was dropped brought it; the reads left fall.
-use Rattle.std.proofs.Common.{◌≡◌, false, sym, ◌∙◌, rules}
-use Rattle.streaming.specs.Inputs.{SoundInput}
-use Rattle.streaming.proofs.SeekLaws.{Seeking, seek-start, seek-turn, next-found, next_last, next-many, next-failed, next-from}
+use Rattle.std.proofs.Common.{sym, ◌∙◌, rules}
+use Rattle.streaming.proofs.SeekLaws.{seek-start, seek-turn, next-found, next_last, next-many, next-failed, next-from}
 use Rattle.streaming.proofs.input.read_line.Goals as goal
 
 pub loop-reads-init : goal.loop-reads-init

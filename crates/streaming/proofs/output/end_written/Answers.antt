@@ -1,5 +1,5 @@
 -- What is left is written with the last line behind it; after a write that failed nothing is.
-use Rattle.std.proofs.Common.{T, sym, refl, ◌∙◌, subst, rules}
+use Rattle.std.proofs.Common.{T, sym, ◌∙◌, subst, rules}
 use Rattle.text.specs.AnswerLines.{end_text}
 use Rattle.streaming.proofs.OutputLaws.{put-kept, put-closed, put-end}
 use Rattle.streaming.proofs.output.end_written.Goals as goal

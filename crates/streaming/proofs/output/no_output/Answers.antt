@@ -1,5 +1,4 @@
 -- Nothing is put, answered or written.
-use Rattle.std.proofs.Common.{rules}
 use Rattle.streaming.proofs.output.no_output.Goals as goal
 
 pub returns : goal.returns

@@ -1,6 +1,5 @@
 -- A closed output stays as it is; where a read failed the answers alone are written.
-use Rattle.std.proofs.Common.{◌≡◌, ℕ, Bool, T, List, ◌++◌, sym, refl, ap, ◌∙◌, subst, append-nil, rules}
-use Rattle.streaming.specs.Outputs.{PutOut, last_text}
+use Rattle.std.proofs.Common.{T, sym, refl, ◌∙◌, subst, append-nil}
 use Rattle.streaming.proofs.OutputLaws.{put_written, put-closed}
 use Rattle.streaming.proofs.output.write_end.Goals as goal
 

@@ -1,5 +1,5 @@
 -- What was written whole is counted.
-use Rattle.std.proofs.Common.{T, sym, refl, subst, rules}
+use Rattle.std.proofs.Common.{T, sym, refl, subst}
 use Rattle.streaming.proofs.sink.write_text.Goals as goal
 
 pub returns-then-write_whole : goal.returns-then-write_whole

@@ -1,5 +1,5 @@
 -- What is written goes up to `done`; the tries fall.
-use Rattle.std.proofs.Common.{◌≤◌, length, rules}
+use Rattle.std.proofs.Common.{◌≤◌, length}
 use Rattle.streaming.proofs.sink.write_whole.Given as goal
 
 abbrev pub invariant-loop-tries : goal.invariant-loop-tries

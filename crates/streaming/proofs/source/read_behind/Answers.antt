@@ -1,5 +1,5 @@
 -- What stood before the read is as it was, however often it was tried; the tries fall.
-use Rattle.streaming.proofs.SourceLaws.{SameFront, tried, some_read, none_read}
+use Rattle.streaming.proofs.SourceLaws.{tried, some_read, none_read}
 use Rattle.std.proofs.Common.{refl, rules}
 use Rattle.streaming.proofs.source.read_behind.Goals as goal
 

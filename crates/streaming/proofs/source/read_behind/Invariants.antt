@@ -1,6 +1,5 @@
 -- What stood before the read is as it was, however often it was tried; the tries fall.
-use Rattle.streaming.proofs.SourceLaws.{SameFront, tried, some_read, none_read}
-use Rattle.std.proofs.Common.{refl, rules}
+use Rattle.streaming.proofs.SourceLaws.{SameFront}
 use Rattle.streaming.proofs.source.read_behind.Given as goal
 
 abbrev pub invariant-loop-tries : goal.invariant-loop-tries

@@ -1,6 +1,5 @@
 -- What is kept is moved to the start, and the read goes behind it.
 use Rattle.streaming.proofs.SourceLaws.{more-read}
-use Rattle.std.proofs.Common.{rules}
 use Rattle.streaming.proofs.source.read_more.Goals as goal
 
 pub returns : goal.returns
