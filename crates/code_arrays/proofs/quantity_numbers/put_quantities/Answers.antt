@@ -1,0 +1,26 @@
+-- The first i elements are copied; a turn copies one more.
+use borrow.Author.Rules.{rules}
+use mathlib.Core.Path.{refl}
+use Prim.Native.Nat.{◌-◌}
+use native.Mathlib.Omega.{arith}
+use lib.IntN.{pos}
+use lib.ListN.{length}
+use mir.Syntax.{w64}
+use mir.Facts.{to_z-of_z}
+use Rattle.code_arrays.proofs.CopyLaws.{Copied, as_long, one_more, all-copied}
+use Rattle.code_arrays.proofs.quantity_numbers.put_quantities.Goals as goal
+
+pub loop-i-init : goal.loop-i-init
+loop-i-init c = record { within = omega arith; content = refl }
+
+pub bounds-out-i : goal.bounds-out-i
+bounds-out-i c = omega (arith, as_long c.requires c.loop-i.invariant)
+
+pub loop-i-preserved : goal.loop-i-preserved
+loop-i-preserved c = one_more c.requires c.loop-i.invariant _ (pos 0) c.loop-i-test.true (to_z-of_z {w = w64} (record { sfits = c.out-1.given }))
+
+pub shape_of-out : goal.shape_of-out
+shape_of-out c = as_long c.requires c.loop-i.invariant
+
+pub returns : goal.returns
+returns c = all-copied c.requires c.loop-i.invariant c.loop-i-test.false

@@ -1,0 +1,6 @@
+-- Stores one after another.
+use borrow.Author.Rules.{rules}
+use Rattle.velocity_octets.proofs.message.put_five.Goals as goal
+
+pub returns : goal.returns
+returns c = rw c.put_four.ensures
