@@ -1,0 +1,20 @@
+-- A code that its field holds is not refused.
+use native.Mathlib.Omega.{arith}
+use Rattle.field_reports.proofs.included.Goals as goal
+
+pub reported_included-requires : goal.reported_included-requires
+reported_included-requires c = tt
+
+pub enum_known-x : goal.enum_known-x
+enum_known-x c = c.in-Angle.in-Angle-own.keys1
+
+pub enum_told-1 : goal.enum_told-1
+enum_told-1 c = c.in-Refused.in-Refused-own.keys2
+
+pub returns-in-Angle : goal.returns-in-Angle
+returns-in-Angle c = rw c.in-Angle.is at c.reported_included.ensures
+
+pub returns-in-Refused : goal.returns-in-Refused
+returns-in-Refused c =
+    let refused = rw c.in-Refused.is at c.reported_included.ensures in
+    absurd (omega (arith, refused.1))
