@@ -1,16 +1,8 @@
 -- The run stands where the lines so far are answered; each turn answers one more.
-use mathlib.Core.Path.{◌≡◌, sym, ◌∙◌}
-use mathlib.Core.Bool.{false}
-use mathlib.Core.List.{[]}
-use Prim.Native.Nat.{◌-◌}
-use Rattle.streaming.specs.Inputs.{SoundInput, most_octets}
-use Rattle.streaming.specs.Outputs.{SoundOutput}
-use Rattle.streaming.proofs.AnswerLaws.{GoesOn, none-taken, empty-output, begun, goes_kept, one_more, none-of-run, is-closed, too_many}
-use Rattle.coder.specs.Coding.{CoderAnswer}
+use mathlib.Core.Path.{sym, ◌∙◌}
+use Rattle.streaming.proofs.AnswerLaws.{none-taken, empty-output, begun, goes_kept, one_more, none-of-run, is-closed, too_many}
 use borrow.Author.Tests.{not-true, not-false}
 use borrow.Author.Rules.{rules}
-use mathlib.Core.Bool.{not}
-use mathlib.Core.Path.{ap}
 use Rattle.coder.proofs.answer_lines.Goals as goal
 
 pub loop-run-init : goal.loop-run-init

@@ -1,16 +1,12 @@
 -- The run stands where the lines so far are answered; each turn answers one more.
-use mathlib.Core.Path.{◌≡◌, sym, ◌∙◌}
+use mathlib.Core.Path.{◌≡◌}
 use mathlib.Core.Bool.{false}
 use mathlib.Core.List.{[]}
 use Prim.Native.Nat.{◌-◌}
 use Rattle.streaming.specs.Inputs.{SoundInput, most_octets}
 use Rattle.streaming.specs.Outputs.{SoundOutput}
-use Rattle.streaming.proofs.AnswerLaws.{GoesOn, none-taken, empty-output, begun, goes_kept, one_more, none-of-run, is-closed, too_many}
+use Rattle.streaming.proofs.AnswerLaws.{GoesOn}
 use Rattle.coder.specs.Coding.{CoderAnswer}
-use borrow.Author.Tests.{not-true, not-false}
-use borrow.Author.Rules.{rules}
-use mathlib.Core.Bool.{not}
-use mathlib.Core.Path.{ap}
 use Rattle.coder.proofs.answer_lines.Given as goal
 
 abbrev pub invariant-loop-run : goal.invariant-loop-run

@@ -1,6 +1,5 @@
 -- The lines are answered, and the last line written.
 use Rattle.streaming.proofs.AnswerLaws.{ran}
-use borrow.Author.Rules.{rules}
 use Rattle.coder.proofs.run.Goals as goal
 
 pub returns : goal.returns

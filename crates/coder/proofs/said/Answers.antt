@@ -1,8 +1,6 @@
 -- The line is where the block has it, unless it is long.
 use mathlib.Core.Path.{refl}
 use native.Mathlib.Omega.{arith}
-use lib.Dec.{T}
-use borrow.Author.Rules.{rules}
 use Rattle.coder.proofs.said.Goals as goal
 
 pub returns-then-input : goal.returns-then-input

@@ -3,7 +3,6 @@ use mathlib.Core.Path.{refl, sym}
 use Rattle.fields.specs.Fields as field
 use Rattle.coder.specs.FieldTexts.{of_field, no_field}
 use Rattle.coder.proofs.CodeLaws.{past-fields}
-use borrow.Author.Rules.{rules}
 use Rattle.coder.proofs.code_text.coded.Goals as goal
 
 pub returns-in-0 : goal.returns-in-0

@@ -3,7 +3,6 @@ use Rattle.ground.specs.declared.quantity.Confidence.TheVariants.{Missing}
 use Rattle.text.proofs.LineFieldLaws.{dash-uncut}
 use Rattle.coder.specs.FieldTexts.{coded}
 use Rattle.coder.proofs.CodeLaws.{untrue}
-use borrow.Author.Rules.{rules}
 use Rattle.coder.proofs.code_text.confidence.Goals as goal
 
 pub returns-then-same : goal.returns-then-same

@@ -1,7 +1,6 @@
 -- `codes::unsigned` meets its contract: the text writes a number of 32 bits without a sign, or none.
 use Rattle.text.proofs.SaysLaws.{unsigned-says, unsigned-none, unsigned-unread}
 use Rattle.coder.proofs.CodeLaws.{unsigned-coded, unsigned-uncoded}
-use borrow.Author.Rules.{rules}
 use Rattle.coder.proofs.code_text.unsigned.Goals as goal
 
 pub returns-in_default : goal.returns-in_default

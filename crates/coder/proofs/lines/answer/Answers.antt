@@ -5,7 +5,6 @@ use lib.ListN.{length}
 use Rattle.text.proofs.LineFieldLaws.{unmarked}
 use Rattle.coder.proofs.ReportLaws.{first_of}
 use Rattle.coder.proofs.LineLaws.{too_few}
-use borrow.Author.Rules.{rules}
 use Rattle.coder.proofs.lines.answer.Goals as goal
 
 pub returns-then-end-line : goal.returns-then-end-line

@@ -6,7 +6,6 @@ use native.Mathlib.Omega.{arith}
 use Rattle.text.proofs.LineFieldLaws.{unmarked}
 use Rattle.coder.proofs.ReportLaws.{first_of}
 use Rattle.coder.proofs.LineLaws.{alone-after, code-line, report-line, no-verb}
-use borrow.Author.Rules.{rules}
 use Rattle.coder.proofs.lines.named.Goals as goal
 
 pub returns-then-end-fields : goal.returns-then-end-fields

@@ -4,7 +4,6 @@ use Rattle.fields.specs.Fields.{latitude, altitude, included}
 use Rattle.coder.specs.Names.{name_of}
 use Rattle.coder.proofs.CodeLaws.{untrue}
 use Rattle.coder.proofs.NameLaws.{named-so, of_length, if-third}
-use borrow.Author.Rules.{rules}
 use Rattle.coder.proofs.names.eight_letters.Goals as goal
 
 pub returns-then-same : goal.returns-then-same

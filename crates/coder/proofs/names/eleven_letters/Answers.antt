@@ -4,7 +4,6 @@ use Rattle.fields.specs.Fields.{uncertainty, orientation}
 use Rattle.coder.specs.Names.{name_of}
 use Rattle.coder.proofs.CodeLaws.{untrue}
 use Rattle.coder.proofs.NameLaws.{named-so, of_length, if-second}
-use borrow.Author.Rules.{rules}
 use Rattle.coder.proofs.names.eleven_letters.Goals as goal
 
 pub returns-then-same : goal.returns-then-same

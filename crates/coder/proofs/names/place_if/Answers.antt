@@ -2,7 +2,6 @@
 use mathlib.Core.Path.{refl}
 use Rattle.coder.specs.Names.{is, other}
 use Rattle.coder.proofs.CodeLaws.{untrue}
-use borrow.Author.Rules.{rules}
 use Rattle.coder.proofs.names.place_if.Goals as goal
 
 pub returns-then-same : goal.returns-then-same

@@ -4,7 +4,6 @@ use lib.ListN.{length}
 use Rattle.fields.specs.Fields as field
 use Rattle.coder.specs.Names.{name_of}
 use Rattle.coder.proofs.NameLaws.{of_length, if-alone, not_named, no_length}
-use borrow.Author.Rules.{rules}
 use Rattle.coder.proofs.names.place_of.Goals as goal
 
 pub returns-in-6 : goal.returns-in-6

@@ -2,7 +2,6 @@
 use Rattle.coder.specs.Names.{code_verb, report_verb}
 use Rattle.coder.proofs.CodeLaws.{untrue}
 use Rattle.coder.proofs.NameLaws.{is_code, is-report, is-neither}
-use borrow.Author.Rules.{rules}
 use Rattle.coder.proofs.names.verb_of.Goals as goal
 
 pub returns-then-same : goal.returns-then-same

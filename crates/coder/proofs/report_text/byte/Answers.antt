@@ -1,7 +1,6 @@
 -- `quantity::byte` meets its contract: a number, one below zero, or none.
 use Rattle.coder.specs.FieldTexts.{byte_field}
 use Rattle.coder.proofs.ReportLaws.{size-code, size_below, size-nothing, byte-plain, below-reported, nothing-reported, byte-reported}
-use borrow.Author.Rules.{rules}
 use Rattle.coder.proofs.report_text.byte.Goals as goal
 
 pub returns-in-Code : goal.returns-in-Code

@@ -7,7 +7,6 @@ use Rattle.text.specs.declared.numeral.Numeral.{Numeral}
 use Rattle.text.specs.Widths.{AsSize}
 use Rattle.text.proofs.LineFieldLaws.{unmarked}
 use Rattle.coder.proofs.ReportLaws.{one-text, first_of}
-use borrow.Author.Rules.{rules}
 use Rattle.coder.proofs.report_text.signed.Goals as goal
 
 pub returns-then-end-texts : goal.returns-then-end-texts

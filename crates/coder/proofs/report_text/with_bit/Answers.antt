@@ -1,7 +1,6 @@
 -- `quantity::with_bit` meets its contract: the sign is above 1, or it is a bit.
 use native.Mathlib.Omega.{arith}
 use Rattle.coder.proofs.ReportLaws.{no_sign, signed-reported}
-use borrow.Author.Rules.{rules}
 use Rattle.coder.proofs.report_text.with_bit.Goals as goal
 
 pub returns-then-sign-gt1 : goal.returns-then-sign-gt1

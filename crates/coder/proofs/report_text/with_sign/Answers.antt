@@ -1,7 +1,6 @@
 -- `quantity::with_sign` meets its contract: by the sorts of the two.
 use mathlib.Core.Path.{refl}
 use Rattle.coder.proofs.ReportLaws.{size-code, size_below, size-nothing, first-nothing, rest-nothing, first_below, rest_below}
-use borrow.Author.Rules.{rules}
 use Rattle.coder.proofs.report_text.with_sign.Goals as goal
 
 pub returns-in-Nothing : goal.returns-in-Nothing

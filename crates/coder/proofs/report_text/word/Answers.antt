@@ -1,7 +1,6 @@
 -- `quantity::word` meets its contract: a number, one below zero, or none.
 use Rattle.coder.specs.FieldTexts.{word_field}
 use Rattle.coder.proofs.ReportLaws.{size-code, size_below, size-nothing, word-plain, below-reported, nothing-reported, word-reported}
-use borrow.Author.Rules.{rules}
 use Rattle.coder.proofs.report_text.word.Goals as goal
 
 pub returns-in-Code : goal.returns-in-Code
