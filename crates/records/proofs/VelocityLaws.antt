@@ -37,8 +37,8 @@ use Rattle.records.specs.VelocityUnused.{MotionRestZero}
 use Rattle.quantities.proofs.ZeroLaws.{not-refused, zero-has-code, kept}
 use Rattle.quantities.proofs.TestLaws.{no_bits, no-bits-back}
 
-pub listed-kind : (k : VelocityKind) → OneOf (1 ∷ 2 ∷ 3 ∷ 4 ∷ []) (tag_of the_type k) → TypeKnown (velocity_rows k)
-listed-kind Nothing h = ⊎_elim (λ e. absurd (omega arith)) (⊎_elim (λ e. absurd (omega arith)) (⊎_elim (λ e. absurd (omega arith)) (λ e. absurd (omega arith)))) h
+pub listed-kind : (k : VelocityKind) → (k ≡ Nothing → ⊥) → TypeKnown (velocity_rows k)
+listed-kind Nothing h = absurd (h refl)
 listed-kind Horizontal h = omega arith
 listed-kind HorizontalVertical h = omega arith
 listed-kind HorizontalUncertain h = omega arith

@@ -19,9 +19,6 @@ returns-then-quantities c =
     let q = c.args.quantities in
     out_of_range q c.refused-then-quantities.result c.requires c.refused-then-quantities.ensures (λ r. absurd (omega (arith, r.axes, c.if-quantities.true)))
 
-pub enum_told-1 : goal.enum_told-1
-enum_told-1 c = search rules
-
 pub returns-in_default : goal.returns-in_default
 returns-in_default c =
     let q = c.args.quantities in
@@ -31,14 +28,14 @@ returns-in_default c =
 pub returns-then-not-points : goal.returns-then-not-points
 returns-then-not-points c =
     let q = c.args.quantities in
-    out_of_range q c.refused-then-not-points.result c.requires c.refused-then-not-points.ensures (λ r. (c.code_points-points.ensures.out (not-true _ (ap not c.if-not-points.true))).not_kept (points_kept q r))
+    out_of_range q c.refused-then-not-points.result c.requires c.refused-then-not-points.ensures (λ r. (c.code_points-points.ensures.out (not-true _ c.if-not-points.true)).not_kept (points_kept q r))
 
 pub returns-in_default-code_sizes : goal.returns-in_default-code_sizes
 returns-in_default-code_sizes c =
     let q = c.args.quantities in
     let z = shown c.is_zero.result (ap not c.if-not-is_zero.false) (rw c.used_by-uses.ensures at c.is_zero.ensures) in
     let ranged = rw (c.in-Codes.is, c.used_by-uses.ensures) at c.code_ranges.ensures in
-    let points = c.code_points-points.ensures.coded (not-false _ (ap not c.if-not-points.false)) in
+    let points = c.code_points-points.ensures.coded (not-false _ c.if-not-points.false) in
     let r = in-range q z (omega (arith, c.if-quantities.false)) c.in-Codes.ranged ranged (λ i. codes-kept (points.each i)) in
     too_large q c.refused-in_default-code_sizes.result c.requires r c.refused-in_default-code_sizes.ensures (rw c.in_default-code_sizes.is at c.code_sizes.ensures)
 
@@ -47,7 +44,7 @@ returns c =
     let q = c.args.quantities in
     let z = shown c.is_zero.result (ap not c.if-not-is_zero.false) (rw c.used_by-uses.ensures at c.is_zero.ensures) in
     let ranged = rw (c.in-Codes.is, c.used_by-uses.ensures) at c.code_ranges.ensures in
-    let points = c.code_points-points.ensures.coded (not-false _ (ap not c.if-not-points.false)) in
+    let points = c.code_points-points.ensures.coded (not-false _ c.if-not-points.false) in
     let r = in-range q z (omega (arith, c.if-quantities.false)) c.in-Codes.ranged ranged (λ i. codes-kept (points.each i)) in
     let sized = rw c.in-Codes-code_sizes.is at c.code_sizes.ensures in
     shape-done q c.in-Codes.ranged c.in-Codes-code_sizes.sizes c.code_points-points.result c.outlined-shape.result r ranged sized points c.outlined-shape.ensures c.requires
