@@ -18,7 +18,7 @@ use denote.Struct.Declared.{row}
 use Rattle.ground.specs.Answers.{unmet}
 use Rattle.ground.specs.declared.code.LatitudeCode.{LatitudeCode}
 use Rattle.ground.specs.declared.code.LongitudeCode.{LongitudeCode}
-use Rattle.ground.specs.contracts.code.LongitudeCode.{the_field}
+use Rattle.ground.specs.contracts.code.LongitudeCode.{the_row}
 use Rattle.octets.specs.Codes.{bit_of, complement}
 use Rattle.layout.specs.declared.Written.{Written}
 use Rattle.layout.specs.declared.shape.Kind.{Kind}
@@ -89,7 +89,7 @@ no_number (suc (suc (suc r))) = refl
 
 -- ---- what a record's type says of it
 
-each-held : (xs : List LongitudeCode) (us : List Val) → shadow (each the_field.row.Denot the_field.row.own_val (map the_field.into xs) us) → (i : ℕ) → mag (get_or xs i zero_longitude).0 < 2147483648
+each-held : (xs : List LongitudeCode) (us : List _) → shadow (each the_row.Denot the_row.own_val xs us) → (i : ℕ) → mag (get_or xs i zero_longitude).0 < 2147483648
 each-held [] us s i = omega arith
 each-held (x ∷ xs) [] s i = absurd s
 each-held (x ∷ xs) (u ∷ us) s zero = omega (arith, s.0.1.1.0)
@@ -106,7 +106,8 @@ pub held : (x : Shape) (vs : List Val) → Is (row the_type) x vs → Held x
 held x vs g =
     let f = g.1.1 in
     let l = f.1.1.1.1.1.1.1.1.1.1.1.1.1.1 in
-    record { latitudes = simp length-map at l.0.1.0.1; longitudes = simp length-map at l.1.0.1.0.1; turn = omega (arith, f.1.1.0.1.1.0); turns = each-held x.longitudes _ l.1.0.1.1 }
+    let q = l.1.0.1.1 in
+    record { latitudes = l.0.1.0.1; longitudes = l.1.0.1.0.1; turn = omega (arith, f.1.1.0.1.1.0); turns = each-held x.longitudes _ l.1.0.1.1 }
 
 -- ---- the record
 

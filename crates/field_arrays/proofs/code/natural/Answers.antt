@@ -11,9 +11,4 @@ returns-then-not-is_natural c = natural-outside c.args.field c.args.quantity.0 (
 
 pub returns : goal.returns
 returns c =
-    let given = c.args in
-    let is-natural = c.is_natural in
-    let if1 = c.if-not-is_natural in
-    let natural = c.natural in
-    let coded-unsigned = c.coded_unsigned in
-    natural-given given.field given.quantity.0 coded-unsigned.result (shown is-natural.result if1.false is-natural.ensures) (rw natural.ensures at coded-unsigned.ensures)
+    natural-given c.args.field c.args.quantity.0 c.coded_unsigned.result (shown c.is_natural.result (ap not c.if-not-is_natural.false) c.is_natural.ensures) (rw c.natural.ensures at c.coded_unsigned.ensures)

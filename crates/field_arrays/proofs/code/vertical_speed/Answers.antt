@@ -15,9 +15,4 @@ returns-then-not-is_signed c = outside (λ x i. refuted c.is_signed.result (ap n
 
 pub returns : goal.returns
 returns c =
-    let given = c.args in
-    let is_Signed = c.is_signed in
-    let if1 = c.if-not-is_signed in
-    let signed = c.signed-speed in
-    let coded-vertical-speed = c.coded_vertical_speed in
-    coded (signed-at given.quantity.0 (shown is_Signed.result if1.false is_Signed.ensures)) (rw (to_z-of_z {w = w32} {z = signed.result.0} (search rules), signed.ensures) at coded-vertical-speed.ensures)
+    coded (signed-at c.args.quantity.0 (shown c.is_signed.result (ap not c.if-not-is_signed.false) c.is_signed.ensures)) (rw (to_z-of_z {w = w32} {z = c.signed-speed.result.0} (search rules), c.signed-speed.ensures) at c.coded_vertical_speed.ensures)

@@ -13,6 +13,4 @@ returns-then-out-lt1 c = puts-short (omega arith) c.answer.ensures refl
 
 pub returns : goal.returns
 returns c =
-    let given = c.args in
-    let answer2 = c.answer-2 in
-    puts-done (omega arith) answer2.ensures (rw (to_z-of_z {w = w64} {z = given.quantity.0} (search rules)) (first-stored given.out.now given.quantity.0 (omega arith)))
+    puts-done (omega arith) c.answer-2.ensures (rw (to_z-of_z {w = w64} {z = c.args.quantity.0} (search rules)) (first-stored c.args.out.now c.args.quantity.0 (omega arith)))

@@ -12,6 +12,4 @@ returns-then-sign-gt1 c = no_sign c.args.field c.args.code.now (omega arith) (om
 
 pub returns : goal.returns
 returns c =
-    let given = c.args in
-    let reported-signed = c.reported_signed in
-    signed-said given.field given.code.now reported-signed.result (omega arith) (omega arith) reported-signed.ensures
+    signed-said c.args.field c.args.code.now c.reported_signed.result (omega arith) (omega arith) c.reported_signed.ensures

@@ -1,0 +1,17 @@
+-- The answer is the writer's, and the quantities are those of a record that it takes.
+use Rattle.reports.proofs.report_velocity.Goals as goal
+
+pub velocity_outcome-requires : goal.velocity_outcome-requires
+velocity_outcome-requires c = tt
+
+pub quantities_of-requires : goal.quantities_of-requires
+quantities_of-requires c = rw c.in-Done.is at c.velocity_outcome.ensures
+
+pub no_velocity-requires : goal.no_velocity-requires
+no_velocity-requires c = tt
+
+pub returns-in-Done : goal.returns-in-Done
+returns-in-Done c = record { answer = rw c.in-Done.is at c.velocity_outcome.ensures; quantities = c.quantities_of.ensures }
+
+pub returns-in-Refused : goal.returns-in-Refused
+returns-in-Refused c = record { answer = rw c.in-Refused.is at c.velocity_outcome.ensures; quantities = c.no_velocity.ensures }
