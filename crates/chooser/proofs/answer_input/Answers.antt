@@ -1,13 +1,9 @@
 -- The list is taken from the first line, if there is one.
-use Prim.Native.Nat.{ℕ}
 use mathlib.Core.Path.{sym, subst, ◌∙◌}
 use mathlib.Core.List.{[]}
 use Rattle.streaming.proofs.AnswerLaws.{none-taken, line_taken, empty-output, still-empty, begun, none-of-run}
 use Rattle.chooser.specs.Choosing.{Heads, nothing, listed}
 use borrow.Author.Tests.{not-true, not-false}
-use borrow.Author.Rules.{rules}
-use mathlib.Core.Bool.{not}
-use mathlib.Core.Path.{ap}
 use Rattle.chooser.proofs.answer_input.Goals as goal
 
 pub next_line-first-requires : goal.next_line-first-requires

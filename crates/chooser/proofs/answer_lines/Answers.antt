@@ -1,17 +1,8 @@
 -- The run stands where the lines behind the first are answered; each turn answers one more.
-use mathlib.Core.Path.{◌≡◌, sym, ◌∙◌}
-use mathlib.Core.Bool.{false}
-use mathlib.Core.List.{List}
-use Prim.Native.Nat.{ℕ, ◌-◌}
-use Rattle.streaming.specs.Inputs.{SoundInput, most_octets}
-use Rattle.streaming.specs.Outputs.{SoundOutput}
-use Rattle.streaming.specs.Answering.{Taken}
-use Rattle.streaming.proofs.AnswerLaws.{GoesOn, begun, goes_kept, one_more, none-of-run, is-closed, too_many}
-use Rattle.chooser.specs.Choosing.{ChooserAnswer, NoneAnswered}
+use mathlib.Core.Path.{sym, ◌∙◌}
+use Rattle.streaming.proofs.AnswerLaws.{begun, goes_kept, one_more, none-of-run, is-closed, too_many}
 use borrow.Author.Tests.{not-true, not-false}
 use borrow.Author.Rules.{rules}
-use mathlib.Core.Bool.{not}
-use mathlib.Core.Path.{ap}
 use Rattle.chooser.proofs.answer_lines.Goals as goal
 
 pub loop-run-init : goal.loop-run-init

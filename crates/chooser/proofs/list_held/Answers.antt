@@ -1,8 +1,6 @@
 -- The line is where the block has it, unless it is long.
-use mathlib.Core.Path.{refl}
 use native.Mathlib.Omega.{arith}
 use Rattle.request_lines.proofs.AskingLaws.{list_read, list-empty}
-use borrow.Author.Rules.{rules}
 use Rattle.chooser.proofs.list_held.Goals as goal
 
 pub returns-then-input : goal.returns-then-input

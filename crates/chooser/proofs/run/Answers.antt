@@ -3,7 +3,6 @@ use Prim.Native.Nat.{ℕ}
 use mathlib.Core.Path.{sym, subst}
 use Rattle.chooser.specs.Choosing.{Heads}
 use Rattle.streaming.proofs.AnswerLaws.{ran}
-use borrow.Author.Rules.{rules}
 use Rattle.chooser.proofs.run.Goals as goal
 
 pub returns : goal.returns

@@ -1,6 +1,5 @@
 -- No more lists are counted than were tried.
 use Prim.Native.Nat.{◌-◌, ◌≤◌}
-use borrow.Author.Rules.{rules}
 use Rattle.figures.proofs.bench.lists_without_message.Given as goal
 
 abbrev pub invariant-loop-list : goal.invariant-loop-list

@@ -1,6 +1,5 @@
 -- Each turn prints one octet.
 use Prim.Native.Nat.{◌-◌, ◌≤◌}
-use borrow.Author.Rules.{rules}
 use Rattle.figures.specs.Counting.{Printed}
 use Rattle.figures.proofs.output.print_octets.Given as goal
 

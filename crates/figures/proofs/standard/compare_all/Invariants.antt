@@ -1,6 +1,5 @@
 -- Each turn counts one entry.
 use Prim.Native.Nat.{◌-◌, ◌≤◌}
-use borrow.Author.Rules.{rules}
 use Rattle.figures.specs.Counting.{After}
 use Rattle.figures.proofs.standard.compare_all.Given as goal
 
