@@ -7,13 +7,10 @@ use native.Mathlib.Omega.{arith}
 use lib.ListN.{length, take, drop, length-drop}
 use lib.Seq.{take_all}
 use borrow.Author.Tests.{lt-ltb, le-ltb}
-use types.Run.{OneOf, miss}
-use denote.Enum.Declared.{tag_of}
 use Rattle.text.specs.Text.{Puts, PutsWithin}
 use Rattle.text.proofs.OutputLaws.{then, none, kept}
 use Rattle.frames.specs.Frames.{frame_of, octets_of}
 use Rattle.frames.specs.declared.Frame.{Frame}
-use Rattle.frames.specs.contracts.Frame.{the_type}
 use Rattle.frames.specs.declared.Frame.TheVariants.{Whole, Broken, More, End}
 use Rattle.frames.proofs.FrameLaws.{frame-there}
 use Rattle.listing.specs.Steps.{text_of, longest_step}
@@ -81,16 +78,16 @@ module _ {last : Bool} {s : List ℕ} {unbroken : ℕ} {x y : List ℕ} {at to n
   step F h e = k.same ∙ simp (le-ltb (length x) (length k.text + longest_step) (omega (arith, k.puts.place, k.room, long)), e)
 
   -- a frame that is not whole is the last of the call
-  pub stops : {z : List ℕ} {next : ℕ} {e : Bool} (F : Frame) → OneOf (1 ∷ 2 ∷ 3 ∷ []) (tag_of the_type F) → longest_step ≤ length y - to
+  pub stops : {z : List ℕ} {next : ℕ} {e : Bool} (F : Frame) → ((kind size : ℕ) → F ≡ Whole kind size → ⊥) → longest_step ≤ length y - to
       → F ≡ frame_of last (take (length s - at) (drop at s)) → e ≡ ends_run F → PutsWithin longest_step y to (text_of F n (take (length s - at) (drop at s))) z next
       → Lists last unbroken s x z (record { taken = at; written = next; unbroken = n; ended = e })
   stops {z} {next} {e} F part h f ends p =
       rw ends (finish (ends_run F) (step F h (sym (rw to_end at f)) ∙ stopped F part) (then k.puts (rw to_end at p.puts)) k.inside (omega (arith, p.within, long)) k.count)
     where
-      stopped : (F : Frame) → OneOf (1 ∷ 2 ∷ 3 ∷ []) (tag_of the_type F)
+      stopped : (F : Frame) → ((kind size : ℕ) → F ≡ Whole kind size → ⊥)
           → on_frame F (λ l. some_in k.most (length x) last s (n + 1) (at + (4 + l)) (k.text ++ text_of F n (drop at s))) (found (ends_run F) (k.text ++ text_of F n (drop at s)) at n)
           ≡ found (ends_run F) (k.text ++ text_of F n (drop at s)) at n
-      stopped (Whole kind size) o = absurd (miss (1 ∷ 2 ∷ 3 ∷ []) 0 tt o)
+      stopped (Whole kind size) o = absurd (o kind size refl)
       stopped Broken o = refl
       stopped More o = refl
       stopped End o = refl
