@@ -7,7 +7,7 @@ use native.Mathlib.Omega.{arith}
 use native.Mathlib.Nat.{mod-add-mod}
 use lib.Dec.{T}
 use borrow.Table.Elements.{take-le}
-use lib.ListN.{length, take, drop, length-drop, length-append}
+use lib.ListN.{length, drop, length-drop, length-append}
 use Rattle.listing.specs.Listing.{listing}
 use Rattle.listing.specs.Streaming.{list_from}
 use Rattle.listing.proofs.StreamLaws.{some-lists, rest, taken-inside}

@@ -1,15 +1,11 @@
 -- What is held is what a walk comes to that has not ended; each turn goes on with the walk, and comes nearer to the end.
 use Prim.Native.Nat.{◌≤◌}
-use mathlib.Core.Path.{◌≡◌, sym, ◌∙◌, subst}
-use lib.Dec.{T}
+use mathlib.Core.Path.{◌≡◌}
 use mathlib.Core.Bool.{false}
 use lib.ListN.{length}
 use Rattle.listing.specs.Steps.{longest_step}
 use Rattle.lister.specs.Holding.{Sound, turns_left}
 use Rattle.lister.specs.Walking.{Walked}
-use Rattle.lister.proofs.TurnLaws.{stays_open}
-use Rattle.lister.proofs.WalkLaws.{begun, turn-walks}
-use borrow.Author.Rules.{rules}
 use Rattle.lister.proofs.run.Given as goal
 
 abbrev pub invariant-loop-held : goal.invariant-loop-held

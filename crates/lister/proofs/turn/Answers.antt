@@ -3,7 +3,6 @@ use mathlib.Core.Path.{refl, sym, subst, ◌∙◌}
 use lib.Dec.{T}
 use Rattle.lister.specs.Holding.{lists, reads}
 use Rattle.lister.proofs.TurnLaws.{listed-nearer, may-read, read-nearer}
-use borrow.Author.Rules.{rules}
 use Rattle.lister.proofs.turn.Goals as goal
 
 pub returns-then-listed : goal.returns-then-listed

@@ -1,7 +1,6 @@
 -- Each log is within the input, and each turn goes on behind it.
 use Prim.Native.Nat.{◌-◌, ◌≤◌}
 use mathlib.Core.Path.{◌≡◌}
-use borrow.Author.Rules.{rules}
 use lib.ListN.{length}
 use Rattle.listings.proofs.list_all.Given as goal
 

@@ -1,9 +1,6 @@
 -- What is held of the input stays sound; a line more is counted.
 use Prim.Native.Nat.{◌-◌}
-use mathlib.Core.List.{[]}
 use Rattle.streaming.specs.Inputs.{SoundInput}
-use Rattle.streaming.proofs.AnswerLaws.{none-taken}
-use borrow.Author.Rules.{rules}
 use Rattle.trials.proofs.take_lines.Given as goal
 
 abbrev pub invariant-loop-lines : goal.invariant-loop-lines

@@ -1,9 +1,6 @@
 -- Each turn takes one field.
-use Prim.Native.Nat.{◌-◌, ◌≤◌}
-use mathlib.Core.Path.{◌≡◌}
 use native.Mathlib.Omega.{arith}
-use lib.ListN.{length, length-set}
-use borrow.Author.Rules.{rules}
+use lib.ListN.{length-set}
 use Rattle.trials.proofs.given.numbers_in.Goals as goal
 
 pub returns-then-line-at : goal.returns-then-line-at

@@ -1,9 +1,7 @@
 -- Each turn takes one field.
 use Prim.Native.Nat.{◌-◌, ◌≤◌}
 use mathlib.Core.Path.{◌≡◌}
-use native.Mathlib.Omega.{arith}
-use lib.ListN.{length, length-set}
-use borrow.Author.Rules.{rules}
+use lib.ListN.{length}
 use Rattle.trials.proofs.given.numbers_in.Given as goal
 
 abbrev pub invariant-loop-count : goal.invariant-loop-count

@@ -1,8 +1,7 @@
 -- One number a turn.
 use Prim.Native.Nat.{◌-◌}
 use mathlib.Core.Path.{◌≡◌}
-use lib.ListN.{length, length-set}
-use borrow.Author.Rules.{rules}
+use lib.ListN.{length}
 use Rattle.trials.proofs.given.octets_from.Given as goal
 
 abbrev pub invariant-loop-i : goal.invariant-loop-i

@@ -1,7 +1,6 @@
 -- One number a turn.
 use Prim.Native.Nat.{◌-◌, ◌≤◌}
 use lib.ListN.{length}
-use borrow.Author.Rules.{rules}
 use Rattle.trials.proofs.print.codes.Given as goal
 
 abbrev pub invariant-loop-i : goal.invariant-loop-i
