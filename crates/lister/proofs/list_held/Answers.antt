@@ -1,13 +1,7 @@
 -- What is listed is what list_some finds in what is held, and that is written.
-use native.Mathlib.Omega.{arith}
-use mathlib.Core.Path.{sym}
-use lib.Seq.{length-take-le}
 use Rattle.lister.proofs.TurnLaws.{turned, text-found, text-put}
 use borrow.Author.Rules.{rules}
 use Rattle.lister.proofs.list_held.Goals as goal
-
-pub slice_bounds-write_listed-end-2 : goal.slice_bounds-write_listed-end-2
-slice_bounds-write_listed-end-2 c = sym (length-take-le _ _ (omega (arith, c.list_some-listed.ensures.room, c.list_some-listed.auto.out)))
 
 pub write_listed-sink-requires : goal.write_listed-sink-requires
 write_listed-sink-requires c = record { text_value = text-put c.args.buf.now c.args.held c.filled-fill.result c.is_over-last.result c.list_some-listed.result c.filled-fill.ensures c.is_over-last.ensures c.list_some-listed.ensures c.list_some-listed.auto.out; closed_value = search rules }
