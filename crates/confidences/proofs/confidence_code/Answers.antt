@@ -11,9 +11,6 @@ returns-then-p-eq0 c = (refl, subst⁻¹ NoPerCent c.in-PerCent.is (below (searc
 pub returns-then-p-gt100 : goal.returns-then-p-gt100
 returns-then-p-gt100 c = (refl, subst⁻¹ NoPerCent c.in-PerCent.is (above (search rules)))
 
-pub enum_told-1 : goal.enum_told-1
-enum_told-1 c = search rules
-
 pub returns-else-p-gt100 : goal.returns-else-p-gt100
 returns-else-p-gt100 c = subst⁻¹ (ConfidenceSet _) c.in-PerCent.is (search rules)
 

@@ -21,9 +21,6 @@ long s kind k e h = subst (λ (j : Kind). ShapeOfLength j s) e h
 polygon-long : (s : List ℕ) (kind : Kind) → kind ≡ Polygon → ShapeOfLength kind s → length s ≡ 1 + 6 * bits s 4 4
 polygon-long s kind e h = long s kind Polygon e h ∙ polygon-length (bits s 4 4)
 
-pub enum_told-1 : goal.enum_told-1
-enum_told-1 c = search rules
-
 pub started-requires : goal.started-requires
 started-requires c = omega (arith, long _ _ Point c.in-Point.is c.requires.shape_of_length)
 

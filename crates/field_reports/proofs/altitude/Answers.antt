@@ -5,12 +5,6 @@ use Rattle.field_reports.proofs.altitude.Goals as goal
 pub reported_altitude-requires : goal.reported_altitude-requires
 reported_altitude-requires c = tt
 
-pub enum_known-x : goal.enum_known-x
-enum_known-x c = c.in-Altitude.in-Altitude-own.keys1
-
-pub enum_told-1 : goal.enum_told-1
-enum_told-1 c = c.in-Refused.in-Refused-own.keys2
-
 pub returns-in-Altitude : goal.returns-in-Altitude
 returns-in-Altitude c = rw c.in-Altitude.is at c.reported_altitude.ensures
 

@@ -5,12 +5,6 @@ use Rattle.field_reports.proofs.confidence.Goals as goal
 pub reported_confidence-requires : goal.reported_confidence-requires
 reported_confidence-requires c = tt
 
-pub enum_known-x : goal.enum_known-x
-enum_known-x c = c.in-Confidence.in-Confidence-own.keys1
-
-pub enum_told-1 : goal.enum_told-1
-enum_told-1 c = c.in-Refused.in-Refused-own.keys2
-
 pub returns-in-Confidence : goal.returns-in-Confidence
 returns-in-Confidence c = rw c.in-Confidence.is at c.reported_confidence.ensures
 

@@ -5,12 +5,6 @@ use Rattle.field_reports.proofs.included.Goals as goal
 pub reported_included-requires : goal.reported_included-requires
 reported_included-requires c = tt
 
-pub enum_known-x : goal.enum_known-x
-enum_known-x c = c.in-Angle.in-Angle-own.keys1
-
-pub enum_told-1 : goal.enum_told-1
-enum_told-1 c = c.in-Refused.in-Refused-own.keys2
-
 pub returns-in-Angle : goal.returns-in-Angle
 returns-in-Angle c = rw c.in-Angle.is at c.reported_included.ensures
 

@@ -5,12 +5,6 @@ use Rattle.field_reports.proofs.latitude.Goals as goal
 pub reported_latitude-requires : goal.reported_latitude-requires
 reported_latitude-requires c = tt
 
-pub enum_known-x : goal.enum_known-x
-enum_known-x c = c.in-Coordinate.in-Coordinate-own.keys1
-
-pub enum_told-1 : goal.enum_told-1
-enum_told-1 c = c.in-Refused.in-Refused-own.keys2
-
 pub returns-in-Coordinate : goal.returns-in-Coordinate
 returns-in-Coordinate c = rw c.in-Coordinate.is at c.reported_latitude.ensures
 

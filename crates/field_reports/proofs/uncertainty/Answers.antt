@@ -5,12 +5,6 @@ use Rattle.field_reports.proofs.uncertainty.Goals as goal
 pub reported_uncertainty-requires : goal.reported_uncertainty-requires
 reported_uncertainty-requires c = tt
 
-pub enum_known-x : goal.enum_known-x
-enum_known-x c = c.in-Radius.in-Radius-own.keys1
-
-pub enum_told-1 : goal.enum_told-1
-enum_told-1 c = c.in-Refused.in-Refused-own.keys2
-
 pub returns-in-Radius : goal.returns-in-Radius
 returns-in-Radius c = rw c.in-Radius.is at c.reported_uncertainty.ensures
 

@@ -6,9 +6,6 @@ use Rattle.forming.proofs.AnswerKinds.{of-kind, nothing, by_length}
 use borrow.Author.Rules.{rules}
 use Rattle.forming.proofs.form.Goals as goal
 
-pub enum_told-1 : goal.enum_told-1
-enum_told-1 c = search rules
-
 pub returns-in-Nothing : goal.returns-in-Nothing
 returns-in-Nothing c = nothing _ _ _ _ c.in-Nothing.is refl
 

@@ -4,9 +4,6 @@ use borrow.Author.Rules.{rules}
 use Rattle.judging.proofs.DemandLaws.{elements-codes}
 use Rattle.judging.proofs.codes_outcome.Goals as goal
 
-pub enum_told-1 : goal.enum_told-1
-enum_told-1 c = search rules
-
 pub returns-in-Nothing : goal.returns-in-Nothing
 returns-in-Nothing c = elements-codes c.args.codes.now c.requires.kind_value c.in-Nothing.is refl
 

@@ -11,9 +11,6 @@ use Rattle.judging.proofs.outcome.Goals as goal
 pub returns-in-Refused : goal.returns-in-Refused
 returns-in-Refused c = codes-refused c.in-Refused.why (rw c.in-Refused.is at c.codes_outcome.ensures)
 
-pub enum_told-1 : goal.enum_told-1
-enum_told-1 c = search rules
-
 pub returns-then-not-in_fields : goal.returns-then-not-in_fields
 returns-then-not-in_fields c = whole (rw c.in_default.is at c.codes_outcome.ensures) (unmet (refuted c.in_fields.result (ap not c.if-not-in_fields.true) c.in_fields.ensures) refl)
 

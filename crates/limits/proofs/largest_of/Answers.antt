@@ -2,9 +2,6 @@
 use borrow.Author.Rules.{rules}
 use Rattle.limits.proofs.largest_of.Goals as goal
 
-pub enum_told-1 : goal.enum_told-1
-enum_told-1 c = search rules
-
 pub returns-in-Nothing : goal.returns-in-Nothing
 returns-in-Nothing c = rw c.in-Nothing.is
 

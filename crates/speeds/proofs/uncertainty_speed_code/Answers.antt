@@ -9,9 +9,6 @@ use Rattle.speeds.proofs.uncertainty_speed_code.Goals as goal
 pub returns-then-s-gt254000 : goal.returns-then-s-gt254000
 returns-then-s-gt254000 c = (refl, subst⁻¹ TooFast c.in-Speed.is (search rules))
 
-pub enum_told-1 : goal.enum_told-1
-enum_told-1 c = search rules
-
 pub returns-else-s-gt254000 : goal.returns-else-s-gt254000
 returns-else-s-gt254000 c =
     let s = c.in-Speed.speed.0 in

@@ -5,9 +5,6 @@ use mir.Facts.{to_z_pos}
 use borrow.Author.Rules.{rules}
 use Rattle.code_arrays.proofs.answers.answer.Goals as goal
 
-pub enum_told-1 : goal.enum_told-1
-enum_told-1 c = search rules
-
 pub joined-requires : goal.joined-requires
 joined-requires c = rw c.refusal_number.ensures (refusals-few c.in-Refused.why)
 

@@ -2,9 +2,6 @@
 use borrow.Author.Rules.{rules}
 use Rattle.code_arrays.proofs.answers.else_out_of_range.Goals as goal
 
-pub enum_told-1 : goal.enum_told-1
-enum_told-1 c = search rules
-
 pub returns-in-Done : goal.returns-in-Done
 returns-in-Done c = rw c.in-Done.is
 

@@ -3,9 +3,6 @@ use borrow.Author.Tests.{lt-ltb, le-ltb}
 use borrow.Author.Rules.{rules}
 use Rattle.code_arrays.proofs.answers.given_room.Goals as goal
 
-pub enum_told-1 : goal.enum_told-1
-enum_told-1 c = search rules
-
 pub returns-then-room-wanted : goal.returns-then-room-wanted
 returns-then-room-wanted c = rw c.in-Done.is (simp (lt-ltb _ _ c.if-room-wanted.true))
 

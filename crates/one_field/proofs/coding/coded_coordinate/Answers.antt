@@ -6,9 +6,6 @@ use Rattle.one_field.specs.declared.coding.Coordinate.{Coordinate}
 use borrow.Author.Rules.{rules}
 use Rattle.one_field.proofs.coding.coded_coordinate.Goals as goal
 
-pub enum_told-1 : goal.enum_told-1
-enum_told-1 c = search rules
-
 pub returns-in-Latitude : goal.returns-in-Latitude
 returns-in-Latitude c =
     subst⁻¹ (λ (k : Coordinate). TellsCoordinate k c.args.x c.latitude.result) c.in-Latitude.is

@@ -6,9 +6,6 @@ use Rattle.one_field.specs.declared.coding.Markable.{Markable}
 use borrow.Author.Rules.{rules}
 use Rattle.one_field.proofs.coding.coded_missing.Goals as goal
 
-pub enum_told-1 : goal.enum_told-1
-enum_told-1 c = search rules
-
 pub returns-in-UncertaintySpeed : goal.returns-in-UncertaintySpeed
 returns-in-UncertaintySpeed c =
     subst⁻¹ (λ (k : Markable). TellsMissing k c.uncertainty_speed.result) c.in-UncertaintySpeed.is

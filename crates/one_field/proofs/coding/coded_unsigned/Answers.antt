@@ -8,9 +8,6 @@ use Rattle.one_field.specs.declared.coding.Unsigned.{Unsigned}
 use borrow.Author.Rules.{rules}
 use Rattle.one_field.proofs.coding.coded_unsigned.Goals as goal
 
-pub enum_told-1 : goal.enum_told-1
-enum_told-1 c = search rules
-
 pub returns-in-Uncertainty : goal.returns-in-Uncertainty
 returns-in-Uncertainty c =
     subst⁻¹ (λ (k : Unsigned). TellsUnsigned k c.args.x c.uncertainty.result) c.in-Uncertainty.is

@@ -4,9 +4,6 @@ use Rattle.one_field.specs.Reporting.{above_byte}
 use borrow.Author.Rules.{rules}
 use Rattle.one_field.proofs.reporting.above_byte.Goals as goal
 
-pub enum_told-1 : goal.enum_told-1
-enum_told-1 c = search rules
-
 pub returns-in-Uncertainty : goal.returns-in-Uncertainty
 returns-in-Uncertainty c = sym (ap above_byte c.in-Uncertainty.is)
 

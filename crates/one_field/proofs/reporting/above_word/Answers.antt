@@ -4,9 +4,6 @@ use Rattle.one_field.specs.Reporting.{above_word}
 use borrow.Author.Rules.{rules}
 use Rattle.one_field.proofs.reporting.above_word.Goals as goal
 
-pub enum_told-1 : goal.enum_told-1
-enum_told-1 c = search rules
-
 pub returns-in-InnerRadius : goal.returns-in-InnerRadius
 returns-in-InnerRadius c = sym (ap above_word c.in-InnerRadius.is)
 

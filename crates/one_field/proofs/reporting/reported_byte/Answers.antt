@@ -13,9 +13,6 @@ pub returns-then-n-gt255 : goal.returns-then-n-gt255
 returns-then-n-gt255 c =
     subst⁻¹ (TellsByte c.args.field c.args.n) c.above_byte.ensures (above-byte c.args.field c.args.n c.if-n-gt255.true)
 
-pub enum_told-1 : goal.enum_told-1
-enum_told-1 c = search rules
-
 pub returns-in-Uncertainty : goal.returns-in-Uncertainty
 returns-in-Uncertainty c =
     subst⁻¹ (λ (k : Byte). TellsByte k c.args.n c.radius.result) c.in-Uncertainty.is

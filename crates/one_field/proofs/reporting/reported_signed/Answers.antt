@@ -10,9 +10,6 @@ use Rattle.one_field.specs.declared.reporting.Signed.{Signed}
 use borrow.Author.Rules.{rules}
 use Rattle.one_field.proofs.reporting.reported_signed.Goals as goal
 
-pub enum_told-1 : goal.enum_told-1
-enum_told-1 c = search rules
-
 pub returns-then-n-gt65535 : goal.returns-then-n-gt65535
 returns-then-n-gt65535 c =
     subst⁻¹ (λ (k : Signed). TellsSigned k c.args.sign c.args.n (Refused OutOfRange)) c.in-Altitude.is

@@ -12,9 +12,6 @@ pub returns-then-n-gt65535 : goal.returns-then-n-gt65535
 returns-then-n-gt65535 c =
     subst⁻¹ (TellsWord c.args.field c.args.n) c.above_word.ensures (above_word_lem c.args.field c.args.n c.if-n-gt65535.true)
 
-pub enum_told-1 : goal.enum_told-1
-enum_told-1 c = search rules
-
 pub returns-in-InnerRadius : goal.returns-in-InnerRadius
 returns-in-InnerRadius c =
     subst⁻¹ (λ (k : Word). TellsWord k c.args.n c.length.result) c.in-InnerRadius.is

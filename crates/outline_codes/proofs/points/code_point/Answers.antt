@@ -7,9 +7,6 @@ use Rattle.ground.specs.declared.quantity.Nanodegrees.{Nanodegrees}
 use Rattle.quantities.proofs.TestLaws.{never, degrees-zero}
 use Rattle.outline_codes.proofs.points.code_point.Goals as goal
 
-pub enum_told-1 : goal.enum_told-1
-enum_told-1 c = search rules
-
 pub returns-in_default : goal.returns-in_default
 returns-in_default c = λ k. k.latitudes c.if-used.true (refl, (rw c.in_default.is at c.latitude_code.ensures).1)
 

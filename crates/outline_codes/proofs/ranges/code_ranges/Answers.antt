@@ -4,9 +4,6 @@ use Rattle.outline_codes.proofs.RangeLaws.{included-code, included-out}
 use borrow.Author.Rules.{rules}
 use Rattle.outline_codes.proofs.ranges.code_ranges.Goals as goal
 
-pub enum_told-1 : goal.enum_told-1
-enum_told-1 c = search rules
-
 pub returns-in_default : goal.returns-in_default
 returns-in_default c = λ k. k.latitudes (refl, (rw c.in_default.is at c.latitude_code.ensures).1)
 

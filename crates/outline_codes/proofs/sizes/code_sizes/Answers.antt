@@ -3,9 +3,6 @@ use mathlib.Core.Path.{refl}
 use borrow.Author.Rules.{rules}
 use Rattle.outline_codes.proofs.sizes.code_sizes.Goals as goal
 
-pub enum_told-1 : goal.enum_told-1
-enum_told-1 c = search rules
-
 pub returns-in_default : goal.returns-in_default
 returns-in_default c = λ k. k.uncertainties (refl, (rw c.in_default.is at c.uncertainty_code.ensures).1)
 

@@ -7,8 +7,5 @@ use Rattle.outline_codes.proofs.unused.idle_confidence.Goals as goal
 pub returns-then-used : goal.returns-then-used
 returns-then-used c = never c.if-used.true
 
-pub enum_told-1 : goal.enum_told-1
-enum_told-1 c = search rules
-
 pub returns-in-PerCent : goal.returns-in-PerCent
 returns-in-PerCent c = no-confidence c.if-used.false c.args.confidence c.in-PerCent.field-0 c.in-PerCent.is

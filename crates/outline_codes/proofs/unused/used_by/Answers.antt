@@ -4,9 +4,6 @@ use Rattle.outline_codes.specs.Kinds.{uses_of}
 use borrow.Author.Rules.{rules}
 use Rattle.outline_codes.proofs.unused.used_by.Goals as goal
 
-pub enum_told-1 : goal.enum_told-1
-enum_told-1 c = search rules
-
 pub returns-in-Nothing : goal.returns-in-Nothing
 returns-in-Nothing c = c.used.ensures ∙ ap uses_of (sym c.in-Nothing.is)
 

@@ -3,9 +3,6 @@ use borrow.Author.Rules.{rules}
 use Rattle.radii.specs.Tables.{entries_in}
 use Rattle.radii.proofs.tables.row_of.Goals as goal
 
-pub enum_told-1 : goal.enum_told-1
-enum_told-1 c = search rules
-
 pub returns-in-Radii : goal.returns-in-Radii
 unfolding entries_in
 returns-in-Radii c = rw c.in-Radii.is c.row_of.ensures

@@ -7,9 +7,6 @@ use Rattle.records.proofs.FormLaws.{nothing-form, plain_form, polygon-form}
 use borrow.Author.Rules.{rules}
 use Rattle.records.proofs.kinds.form.Goals as goal
 
-pub enum_told-1 : goal.enum_told-1
-enum_told-1 c = search rules
-
 pub returns-then-count-lt3 : goal.returns-then-count-lt3
 returns-then-count-lt3 c = polygon-form _ _ 4 c.in-Polygon.is (unmet (λ h. absurd (omega (arith, h.0))) refl)
 

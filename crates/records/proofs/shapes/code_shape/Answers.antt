@@ -4,9 +4,6 @@ use Rattle.records.proofs.FormLaws.{formed, form-refused}
 use Rattle.records.proofs.ShapeLaws.{refused-with}
 use Rattle.records.proofs.shapes.code_shape.Goals as goal
 
-pub enum_told-1 : goal.enum_told-1
-enum_told-1 c = search rules
-
 pub coded-requires : goal.coded-requires
 coded-requires c = formed c.args.quantities (rw c.in-Done.is at c.form.ensures)
 

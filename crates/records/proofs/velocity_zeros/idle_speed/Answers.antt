@@ -7,9 +7,6 @@ use Rattle.records.proofs.velocity_zeros.idle_speed.Goals as goal
 pub returns-then-used : goal.returns-then-used
 returns-then-used c = never c.if-used.true
 
-pub enum_told-1 : goal.enum_told-1
-enum_told-1 c = search rules
-
 pub returns-in-Speed : goal.returns-in-Speed
 returns-in-Speed c = idle-speed c.if-used.false c.args.uncertainty c.in-Speed.speed c.in-Speed.is
 

@@ -4,9 +4,6 @@ use Rattle.records.specs.VelocityUnused.{motion_uses_of}
 use borrow.Author.Rules.{rules}
 use Rattle.records.proofs.velocity_zeros.motion_uses.Goals as goal
 
-pub enum_told-1 : goal.enum_told-1
-enum_told-1 c = search rules
-
 pub returns-in-Nothing : goal.returns-in-Nothing
 returns-in-Nothing c = ap motion_uses_of (sym c.in-Nothing.is)
 

@@ -5,9 +5,6 @@ use Rattle.text.specs.AnswerLines.{said_line_text}
 use Rattle.text.proofs.WithinLaws.{within, octet-within, decimal-within, signed-within, after, fewer}
 use Rattle.text.proofs.answer_lines.put_said.Goals as goal
 
-pub enum_told-1 : goal.enum_told-1
-enum_told-1 c = search rules
-
 pub put_decimal-requires : goal.put_decimal-requires
 put_decimal-requires c = omega (arith, decimal-most {n = c.in-Refused.number} (omega arith))
 

@@ -3,9 +3,6 @@ use Rattle.std.proofs.Common.{arith, w32, rules}
 use Rattle.text.proofs.WidthLaws.{means-zero, means-plus, means-minus, no_number, no-fit, plus-held, minus-held}
 use Rattle.text.proofs.widths.signed_32.Goals as goal
 
-pub enum_told-1 : goal.enum_told-1
-enum_told-1 c = search rules
-
 pub returns-in_default : goal.returns-in_default
 returns-in_default c = λ x m f. no_number c.in_default.is m
 

@@ -4,9 +4,6 @@ use lib.Signed.{mag}
 use Rattle.text.proofs.WidthLaws.{means-zero, means-plus, means-minus, means-one, no_number, not-below}
 use Rattle.text.proofs.widths.unsigned_32.Goals as goal
 
-pub enum_told-1 : goal.enum_told-1
-enum_told-1 c = search rules
-
 pub returns-in_default : goal.returns-in_default
 returns-in_default c = λ x m h. no_number c.in_default.is m
 

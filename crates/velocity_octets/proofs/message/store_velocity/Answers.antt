@@ -10,9 +10,6 @@ use Rattle.velocity_octets.proofs.message.store_velocity.Goals as goal
 pub first_word-first-requires : goal.first_word-first-requires
 first_word-first-requires c = record { type_number_bound = omega (arith, c.velocity_type_number-type_number.ensures, type-lt c.args.velocity.kind); bearing_bound = bearing-fits _ _ c.requires }
 
-pub enum_told-1 : goal.enum_told-1
-enum_told-1 c = search rules
-
 pub put_four-requires : goal.put_four-requires
 put_four-requires c = omega (arith, own_room _ _ c.requires Horizontal c.in-Horizontal.is)
 

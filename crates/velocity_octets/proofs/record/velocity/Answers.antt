@@ -13,9 +13,6 @@ use Rattle.velocity_octets.proofs.record.velocity.Goals as goal
 long : (s : List ℕ) (kind k : VelocityKind) → kind ≡ k → VelocityOfLength kind s → VelocityOfLength k s
 long s kind k e h = subst (λ (j : VelocityKind). VelocityOfLength j s) e h
 
-pub enum_told-1 : goal.enum_told-1
-enum_told-1 c = search rules
-
 pub motion-requires : goal.motion-requires
 motion-requires c = record { first_value = c.requires.first_value; in_bounds = omega (arith, long c.args.s.now _ Horizontal c.in-Horizontal.is c.requires.velocity_of_length) }
 
