@@ -18,37 +18,43 @@ const LONGEST_ANSWER: usize = 65;
 // No input has so many lines.
 const MOST_LINES: u64 = 4611686018427387904;
 
-fn main() {
+fn main(rt: HostRuntime) {
     let mut out = io::large_buffer();
     let mut block = io::large_buffer();
-    run(&mut out, &mut block);
+    run(&rt, &mut out, &mut block);
 }
 
 // Answers every request of the input, and says how many there were. Answers where it stands then.
-fn run(out: &mut [u8; 65536], block: &mut [u8; 65536]) -> Run
+fn run(rt: &HostRuntime, out: &mut [u8; 65536], block: &mut [u8; 65536]) -> Run
     ensures { ChoosesAll block.old block.new out.new result }
 {
-    let answered = answer_input(out, block);
-    streaming::write_end(out, answered)
+    let answered = answer_input(rt, out, block);
+    streaming::write_end(rt, out, answered)
 }
 
 // Takes the receiver's list from the first line, and answers every line after it.
-fn answer_input(out: &mut [u8; 65536], block: &mut [u8; 65536]) -> Run
+fn answer_input(rt: &HostRuntime, out: &mut [u8; 65536], block: &mut [u8; 65536]) -> Run
     ensures { StoppedChoosing block.old block.new out.new result }
 {
     let input = streaming::no_input();
     let output = streaming::no_output();
-    let first = streaming::next_line(out, block, Run { input, output });
+    let first = streaming::next_line(rt, out, block, Run { input, output });
     let line = first.input;
     if !line.ready {
         return first;
     }
     let list = list_held(block, line);
-    answer_lines(out, block, first, list)
+    answer_lines(rt, out, block, first, list)
 }
 
 // Answers every line after the first. The end of the input ends it, a closed output, and a read that fails.
-fn answer_lines(out: &mut [u8; 65536], block: &mut [u8; 65536], first: Run, list: u16) -> Run
+fn answer_lines(
+    rt: &HostRuntime,
+    out: &mut [u8; 65536],
+    block: &mut [u8; 65536],
+    first: Run,
+    list: u16,
+) -> Run
     requires sound_input { SoundInput first.input }
     requires sound_output { SoundOutput first.output }
     requires closed_value { first.output.sink.closed ≡ false }
@@ -56,12 +62,12 @@ fn answer_lines(out: &mut [u8; 65536], block: &mut [u8; 65536], first: Run, list
 {
     let mut run = first;
     while run.output.answered < MOST_LINES {
-        let next = streaming::next_line(out, block, run);
+        let next = streaming::next_line(rt, out, block, run);
         let input = next.input;
         if !input.ready {
             return next;
         }
-        let output = answer_line(out, block, input, list, next.output);
+        let output = answer_line(rt, out, block, input, list, next.output);
         run = Run { input, output };
         if streaming::is_closed(output.sink) {
             return run;
@@ -72,6 +78,7 @@ fn answer_lines(out: &mut [u8; 65536], block: &mut [u8; 65536], first: Run, list
 
 // Answers the line that is held.
 fn answer_line(
+    rt: &HostRuntime,
     out: &mut [u8; 65536],
     block: &[u8; 65536],
     input: Input,
@@ -84,7 +91,7 @@ fn answer_line(
     requires answered_lt_most_octets { before.answered < most_octets }
     ensures { AnswerPut (ChooserAnswer list) block.now out.old out.new input before result }
 {
-    let mut output = streaming::make_room(out, before, LONGEST_ANSWER);
+    let mut output = streaming::make_room(rt, out, before, LONGEST_ANSWER);
     output.answered += 1;
     let asked = request_held(block, input);
     output.put = put_chosen(out, output.put, output.answered, asked, list);

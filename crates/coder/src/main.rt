@@ -22,34 +22,34 @@ const LONGEST_ANSWER: usize = 46;
 // No input has so many lines.
 const MOST_LINES: u64 = 4611686018427387904;
 
-fn main() {
+fn main(rt: HostRuntime) {
     let mut out = io::large_buffer();
     let mut block = io::large_buffer();
-    run(&mut out, &mut block);
+    run(&rt, &mut out, &mut block);
 }
 
 // Answers every line of the input, and says how many there were. Answers where it stands then.
-fn run(out: &mut [u8; 65536], block: &mut [u8; 65536]) -> Run
+fn run(rt: &HostRuntime, out: &mut [u8; 65536], block: &mut [u8; 65536]) -> Run
     ensures { CodesAll block.old block.new out.new result }
 {
-    let answered = answer_lines(out, block);
-    streaming::write_end(out, answered)
+    let answered = answer_lines(rt, out, block);
+    streaming::write_end(rt, out, answered)
 }
 
 // Answers every line of the input. The end of the input ends it, a closed output, and a read that fails.
-fn answer_lines(out: &mut [u8; 65536], block: &mut [u8; 65536]) -> Run
+fn answer_lines(rt: &HostRuntime, out: &mut [u8; 65536], block: &mut [u8; 65536]) -> Run
     ensures { Stopped CoderAnswer [] block.old block.new out.new result }
 {
     let input = streaming::no_input();
     let output = streaming::no_output();
     let mut run = Run { input, output };
     while run.output.answered < MOST_LINES {
-        let next = streaming::next_line(out, block, run);
+        let next = streaming::next_line(rt, out, block, run);
         let input = next.input;
         if !input.ready {
             return next;
         }
-        let output = answer_line(out, block, input, next.output);
+        let output = answer_line(rt, out, block, input, next.output);
         run = Run { input, output };
         if streaming::is_closed(output.sink) {
             return run;
@@ -59,14 +59,20 @@ fn answer_lines(out: &mut [u8; 65536], block: &mut [u8; 65536]) -> Run
 }
 
 // Answers the line that is held.
-fn answer_line(out: &mut [u8; 65536], block: &[u8; 65536], input: Input, before: Output) -> Output
+fn answer_line(
+    rt: &HostRuntime,
+    out: &mut [u8; 65536],
+    block: &[u8; 65536],
+    input: Input,
+    before: Output,
+) -> Output
     requires sound_input { SoundInput input }
     requires sound_output { SoundOutput before }
     requires closed_value { before.sink.closed ≡ false }
     requires answered_lt_most_octets { before.answered < most_octets }
     ensures { AnswerPut CoderAnswer block.now out.old out.new input before result }
 {
-    let mut output = streaming::make_room(out, before, LONGEST_ANSWER);
+    let mut output = streaming::make_room(rt, out, before, LONGEST_ANSWER);
     output.answered += 1;
     output.put = text::put_line(out, output.put, output.answered, said(block, input));
     output

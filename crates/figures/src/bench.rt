@@ -19,49 +19,50 @@ const WHOLE_LIST: u16 = 779;
 const BUFFER: [u8; 7] = [161, 178, 195, 212, 229, 246, 7];
 
 // An empty list: 9.
-pub fn empty_list(tally: Tally) -> Tally
+pub fn empty_list(rt: &HostRuntime, tally: Tally) -> Tally
     requires { Room 6 tally }
     ensures { After 6 tally result }
 {
-    let loose = empty_list_loose(tally);
-    empty_list_tight(loose)
+    let loose = empty_list_loose(rt, tally);
+    empty_list_tight(rt, loose)
 }
 
-fn empty_list_loose(tally: Tally) -> Tally
+fn empty_list_loose(rt: &HostRuntime, tally: Tally) -> Tally
     requires { Room 3 tally }
     ensures { After 3 tally result }
 {
     let height = Altitude::Asked(SignedMillimetres(100000));
     let circle = Horizontal::Circle(Millimetres(57274));
     let first = compare_empty(
+        rt,
         tally,
         b"point",
         plain(Altitude::NotAsked, Horizontal::NotAsked),
     );
-    let second = compare_empty(first, b"altitude", plain(height, Horizontal::NotAsked));
-    compare_empty(second, b"circle", plain(Altitude::NotAsked, circle))
+    let second = compare_empty(rt, first, b"altitude", plain(height, Horizontal::NotAsked));
+    compare_empty(rt, second, b"circle", plain(Altitude::NotAsked, circle))
 }
 
-fn empty_list_tight(tally: Tally) -> Tally
+fn empty_list_tight(rt: &HostRuntime, tally: Tally) -> Tally
     requires { Room 3 tally }
     ensures { After 3 tally result }
 {
-    let first = compare_empty(tally, b"ellipse", ellipse(Confidence::Missing));
-    let second = compare_empty(first, b"confidence", ellipse(Confidence::PerCent(50)));
-    compare_empty(second, b"ellipsoid", ellipsoid())
+    let first = compare_empty(rt, tally, b"ellipse", ellipse(Confidence::Missing));
+    let second = compare_empty(rt, first, b"confidence", ellipse(Confidence::PerCent(50)));
+    compare_empty(rt, second, b"ellipsoid", ellipsoid())
 }
 
-fn compare_empty(tally: Tally, name: &[u8], request: Request) -> Tally
+fn compare_empty(rt: &HostRuntime, tally: Tally, name: &[u8], request: Request) -> Tally
     requires { Room 1 tally }
     ensures { After 1 tally result }
 {
-    let group = output::print(tally, b"empty-list ");
-    let named = output::print(group, name);
-    output::compare(named, answer(request, 0), 9)
+    let group = output::print(rt, tally, b"empty-list ");
+    let named = output::print(rt, group, name);
+    output::compare(rt, named, answer(request, 0), 9)
 }
 
 // Altitude and circle with no altitude uncertainty: 9 under every list. The figure is the number of lists.
-pub fn every_list(tally: Tally) -> Tally
+pub fn every_list(rt: &HostRuntime, tally: Tally) -> Tally
     requires { Room 3 tally }
     ensures { After 3 tally result }
 {
@@ -71,18 +72,23 @@ pub fn every_list(tally: Tally) -> Tally
     let height = plain(Altitude::Asked(SignedMillimetres(100000)), circle);
     let level = plain(Altitude::Asked(SignedMillimetres(0)), zero);
     let depth = confident(Altitude::Asked(SignedMillimetres(-1)), largest);
-    let first = compare_lists(tally, b"height", height);
-    let second = compare_lists(first, b"level", level);
-    compare_lists(second, b"depth", depth)
+    let first = compare_lists(rt, tally, b"height", height);
+    let second = compare_lists(rt, first, b"level", level);
+    compare_lists(rt, second, b"depth", depth)
 }
 
-fn compare_lists(tally: Tally, name: &[u8], request: Request) -> Tally
+fn compare_lists(rt: &HostRuntime, tally: Tally, name: &[u8], request: Request) -> Tally
     requires { Room 1 tally }
     ensures { After 1 tally result }
 {
-    let group = output::print(tally, b"every-list ");
-    let named = output::print(group, name);
-    output::compare(named, lists_without_message(request) as u64, LISTS as u64)
+    let group = output::print(rt, tally, b"every-list ");
+    let named = output::print(rt, group, name);
+    output::compare(
+        rt,
+        named,
+        lists_without_message(request) as u64,
+        LISTS as u64,
+    )
 }
 
 // How many of all lists are answered 9.
@@ -107,16 +113,16 @@ fn without_message(request: Request, list: u16) -> u32
 }
 
 // A 7-octet buffer for a circle: 10, and the buffer is left as it was.
-pub fn short_buffer(tally: Tally) -> Tally
+pub fn short_buffer(rt: &HostRuntime, tally: Tally) -> Tally
     requires { Room 4 tally }
     ensures { After 4 tally result }
 {
-    let alone = compare_short(tally, b"short-buffer circle", CIRCLE_LIST);
-    compare_short(alone, b"short-buffer whole", WHOLE_LIST)
+    let alone = compare_short(rt, tally, b"short-buffer circle", CIRCLE_LIST);
+    compare_short(rt, alone, b"short-buffer whole", WHOLE_LIST)
 }
 
 // The answer, and on the next line the buffer.
-fn compare_short(tally: Tally, name: &[u8], list: u16) -> Tally
+fn compare_short(rt: &HostRuntime, tally: Tally, name: &[u8], list: u16) -> Tally
     requires { Room 2 tally }
     ensures { After 2 tally result }
 {
@@ -124,20 +130,20 @@ fn compare_short(tally: Tally, name: &[u8], list: u16) -> Tally
     let circle = Horizontal::Circle(Millimetres(57274));
     let written = choice::choose(&mut out, plain(Altitude::NotAsked, circle), list);
     let outcome = written.outcome;
-    let named = output::print(tally, name);
-    let answered = output::compare(named, answer_number(outcome), 10);
-    compare_buffer(answered, name, &out)
+    let named = output::print(rt, tally, name);
+    let answered = output::compare(rt, named, answer_number(outcome), 10);
+    compare_buffer(rt, answered, name, &out)
 }
 
 // What the buffer is, and what it was.
-fn compare_buffer(tally: Tally, name: &[u8], out: &[u8; 7]) -> Tally
+fn compare_buffer(rt: &HostRuntime, tally: Tally, name: &[u8], out: &[u8; 7]) -> Tally
     requires { Room 1 tally }
     ensures { After 1 tally result }
 {
-    let named = output::print(tally, name);
-    let found = output::print_octets(named, out);
-    let expected = output::print_octets(found, &BUFFER);
-    output::end_line(expected, check::same(out, &BUFFER))
+    let named = output::print(rt, tally, name);
+    let found = output::print_octets(rt, named, out);
+    let expected = output::print_octets(rt, found, &BUFFER);
+    output::end_line(rt, expected, check::same(out, &BUFFER))
 }
 
 // The answer's number where there is room for any message.

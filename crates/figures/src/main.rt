@@ -10,17 +10,17 @@ mod tally;
 
 use tally::Tally;
 
-fn main() {
+fn main(rt: HostRuntime) {
     let sink = streaming::unwritten();
     let start = Tally {
         figures: 0,
         differences: 0,
         sink,
     };
-    let empty = bench::empty_list(start);
-    let every = bench::every_list(empty);
-    let short = bench::short_buffer(every);
-    let radii = standard::uncertainties(short);
-    let all = standard::altitude_uncertainties(radii);
-    output::print_end(all);
+    let empty = bench::empty_list(&rt, start);
+    let every = bench::every_list(&rt, empty);
+    let short = bench::short_buffer(&rt, every);
+    let radii = standard::uncertainties(&rt, short);
+    let all = standard::altitude_uncertainties(&rt, radii);
+    output::print_end(&rt, all);
 }

@@ -5,14 +5,14 @@ use crate::tally;
 use crate::tally::Tally;
 
 // Writes the text, unless the output is closed.
-pub fn print(tally: Tally, text: &[u8]) -> Tally
+pub fn print(rt: &HostRuntime, tally: Tally, text: &[u8]) -> Tally
     ensures { Printed tally result }
 {
     let before = tally.sink;
     if streaming::is_closed(before) {
         return tally;
     }
-    let sink = streaming::write_text(text, before);
+    let sink = streaming::write_text(rt, text, before);
     Tally {
         figures: tally.figures,
         differences: tally.differences,
@@ -21,70 +21,70 @@ pub fn print(tally: Tally, text: &[u8]) -> Tally
 }
 
 // A space and a number.
-pub fn print_number(tally: Tally, n: u64) -> Tally
+pub fn print_number(rt: &HostRuntime, tally: Tally, n: u64) -> Tally
     ensures { Printed tally result }
 {
     let mut digits = [0; 20];
     let count = io::decimal(n, &mut digits);
-    let spaced = print(tally, b" ");
-    print(spaced, &digits[..count])
+    let spaced = print(rt, tally, b" ");
+    print(rt, spaced, &digits[..count])
 }
 
 // A space and the octets.
-pub fn print_octets(tally: Tally, s: &[u8; 7]) -> Tally
+pub fn print_octets(rt: &HostRuntime, tally: Tally, s: &[u8; 7]) -> Tally
     ensures { Printed tally result }
 {
-    let mut t = print(tally, b" ");
+    let mut t = print(rt, tally, b" ");
     let mut i = 0;
     while i < 7 {
-        t = print_octet(t, s[i]);
+        t = print_octet(rt, t, s[i]);
         i += 1;
     }
     t
 }
 
-fn print_octet(tally: Tally, octet: u8) -> Tally
+fn print_octet(rt: &HostRuntime, tally: Tally, octet: u8) -> Tally
     ensures { Printed tally result }
 {
     let mut digits = [0; 16];
     let count = io::hex(octet as u64, 2, &mut digits);
-    print(tally, &digits[..count])
+    print(rt, tally, &digits[..count])
 }
 
 // What was found and what it should be; the line ends as it compares.
-pub fn compare(tally: Tally, found: u64, expected: u64) -> Tally
+pub fn compare(rt: &HostRuntime, tally: Tally, found: u64, expected: u64) -> Tally
     requires { Room 1 tally }
     ensures { After 1 tally result }
 {
-    let first = print_number(tally, found);
-    let second = print_number(first, expected);
-    end_line(second, found == expected)
+    let first = print_number(rt, tally, found);
+    let second = print_number(rt, first, expected);
+    end_line(rt, second, found == expected)
 }
 
 // Ends the line of a figure, and counts it.
-pub fn end_line(tally: Tally, agrees: bool) -> Tally
+pub fn end_line(rt: &HostRuntime, tally: Tally, agrees: bool) -> Tally
     requires { Room 1 tally }
     ensures { After 1 tally result }
 {
-    let ended = print_verdict(tally, agrees);
+    let ended = print_verdict(rt, tally, agrees);
     tally::counted(ended, agrees)
 }
 
-fn print_verdict(tally: Tally, agrees: bool) -> Tally
+fn print_verdict(rt: &HostRuntime, tally: Tally, agrees: bool) -> Tally
     ensures { Printed tally result }
 {
     if agrees {
-        return print(tally, b" ok\n");
+        return print(rt, tally, b" ok\n");
     }
-    print(tally, b" DIFFERS\n")
+    print(rt, tally, b" DIFFERS\n")
 }
 
 // The last line.
-pub fn print_end(tally: Tally) -> Tally
+pub fn print_end(rt: &HostRuntime, tally: Tally) -> Tally
     ensures { Printed tally result }
 {
-    let named = print(tally, b"end");
-    let first = print_number(named, tally.figures);
-    let second = print_number(first, tally.differences);
-    print(second, b"\n")
+    let named = print(rt, tally, b"end");
+    let first = print_number(rt, named, tally.figures);
+    let second = print_number(rt, first, tally.differences);
+    print(rt, second, b"\n")
 }

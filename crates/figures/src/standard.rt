@@ -44,22 +44,27 @@ enum Table {
 }
 
 // Table 1.
-pub fn uncertainties(tally: Tally) -> Tally
+pub fn uncertainties(rt: &HostRuntime, tally: Tally) -> Tally
     requires { Room 10 tally }
     ensures { After 10 tally result }
 {
-    compare_all(tally, Table::Uncertainty, UNCERTAINTIES)
+    compare_all(rt, tally, Table::Uncertainty, UNCERTAINTIES)
 }
 
 // Table 2.
-pub fn altitude_uncertainties(tally: Tally) -> Tally
+pub fn altitude_uncertainties(rt: &HostRuntime, tally: Tally) -> Tally
     requires { Room 10 tally }
     ensures { After 10 tally result }
 {
-    compare_all(tally, Table::AltitudeUncertainty, ALTITUDE_UNCERTAINTIES)
+    compare_all(
+        rt,
+        tally,
+        Table::AltitudeUncertainty,
+        ALTITUDE_UNCERTAINTIES,
+    )
 }
 
-fn compare_all(tally: Tally, table: Table, entries: [Entry; 10]) -> Tally
+fn compare_all(rt: &HostRuntime, tally: Tally, table: Table, entries: [Entry; 10]) -> Tally
     requires { Room 10 tally }
     ensures { After 10 tally result }
 {
@@ -67,18 +72,23 @@ fn compare_all(tally: Tally, table: Table, entries: [Entry; 10]) -> Tally
     let mut i: usize = 0;
     while i < 10 {
         let entry = entries[i];
-        t = compare(print_name(t, table), entry, reported(table, entry.0));
+        t = compare(
+            rt,
+            print_name(rt, t, table),
+            entry,
+            reported(table, entry.0),
+        );
         i += 1;
     }
     t
 }
 
-fn print_name(tally: Tally, table: Table) -> Tally
+fn print_name(rt: &HostRuntime, tally: Tally, table: Table) -> Tally
     ensures { Printed tally result }
 {
     match table {
-        Table::Uncertainty => output::print(tally, b"uncertainty"),
-        Table::AltitudeUncertainty => output::print(tally, b"altitude-uncertainty"),
+        Table::Uncertainty => output::print(rt, tally, b"uncertainty"),
+        Table::AltitudeUncertainty => output::print(rt, tally, b"altitude-uncertainty"),
     }
 }
 
@@ -92,24 +102,24 @@ fn reported(table: Table, code: u8) -> RadiusReported {
 }
 
 // The code, what is reported, the printed figure and half its unit.
-fn compare(tally: Tally, entry: Entry, reported: RadiusReported) -> Tally
+fn compare(rt: &HostRuntime, tally: Tally, entry: Entry, reported: RadiusReported) -> Tally
     requires { Room 1 tally }
     ensures { After 1 tally result }
 {
-    let code = output::print_number(tally, entry.0 as u64);
-    let found = print_reported(code, reported);
-    let figure = output::print_number(found, entry.1 as u64);
-    let half = output::print_number(figure, entry.2 as u64);
-    output::end_line(half, agrees(entry, reported))
+    let code = output::print_number(rt, tally, entry.0 as u64);
+    let found = print_reported(rt, code, reported);
+    let figure = output::print_number(rt, found, entry.1 as u64);
+    let half = output::print_number(rt, figure, entry.2 as u64);
+    output::end_line(rt, half, agrees(entry, reported))
 }
 
 // What is reported, `-` for a refusal.
-fn print_reported(tally: Tally, reported: RadiusReported) -> Tally
+fn print_reported(rt: &HostRuntime, tally: Tally, reported: RadiusReported) -> Tally
     ensures { Printed tally result }
 {
     match reported {
-        RadiusReported::Radius(radius) => output::print_number(tally, radius.0 as u64),
-        RadiusReported::Refused(why) => output::print(tally, b" -"),
+        RadiusReported::Radius(radius) => output::print_number(rt, tally, radius.0 as u64),
+        RadiusReported::Refused(why) => output::print(rt, tally, b" -"),
     }
 }
 

@@ -7,7 +7,7 @@ use native.Mathlib.Omega.{arith}
 use native.Mathlib.Nat.{mod-add-mod}
 use lib.Dec.{T}
 use borrow.Table.Elements.{take-le}
-use lib.ListN.{length, take, drop, length-drop, length-append}
+use lib.ListN.{length, drop, length-drop, length-append}
 use Rattle.listing.specs.Listing.{listing}
 use Rattle.listing.specs.Streaming.{list_from}
 use Rattle.listing.proofs.StreamLaws.{some-lists, rest, taken-inside}
@@ -92,10 +92,10 @@ is-over true closed over o e c = refl
 is-over false closed over o e c = absurd (subst T (sym (sym o ∙ e) ∙ c) tt)
 
 -- A WALK THAT HAS ENDED, with an output that took all and no read that failed: the text is the listing of all octets that were read, and of the whole input, where some of it was not read
-pub walk_ends : {buf input text : List ℕ} {h : Held} → Walk buf h input text → h.ended ≡ true → h.sink.closed ≡ false → h.source.failed ≡ false → (later : List ℕ) → (h.source.over ≡ true → later ≡ [])
+pub walk_ends : {buf : List ℕ} {h : Held} {input text : List ℕ} → Walk buf h input text → h.ended ≡ true → h.sink.closed ≡ false → h.source.failed ≡ false → (later : List ℕ) → (h.source.over ≡ true → later ≡ [])
     → text ≡ listing (input ++ later)
 walk_ends (start buf) e w ok later all = never e refl
-walk_ends {buf = buf} {input = input} {h = r} (lists {x = x} {text = text} {h = h} walk go t) e w ok later all =
+walk_ends {buf = buf} {h = r} {input = input} (lists {x = x} {text = text} {h = h} walk go t) e w ok later all =
     let over : (found_in (length x) buf h).ended ≡ true = is-over (found_in (length x) buf h).ended r.sink.closed r.ended t.ended e w in
     sym (listed t input text later (rw t.same_source at all) (walk-lists walk go later (rw t.same_source at all)) ∙ rw (over, append-nil))
 walk_ends (reads walk go may f) e w ok later all = never e (f.ended ∙ ok)
@@ -105,9 +105,9 @@ pub record Begins (text whole : List ℕ) : Type 0 where
   pub rest : List ℕ
   pub parts : whole ≡ text ++ rest
 
-pub walk_begins : {buf input text : List ℕ} {h : Held} → Walk buf h input text → (later : List ℕ) → (h.source.over ≡ true → later ≡ []) → Begins text (listing (input ++ later))
+pub walk_begins : {buf : List ℕ} {h : Held} {input text : List ℕ} → Walk buf h input text → (later : List ℕ) → (h.source.over ≡ true → later ≡ []) → Begins text (listing (input ++ later))
 walk_begins (start buf) later all = record { rest = listing later; parts = refl }
-walk_begins {buf = buf} {input = input} {h = r} (lists {x = x} {text = text} {h = h} walk go t) later all =
+walk_begins {buf = buf} {h = r} {input = input} (lists {x = x} {text = text} {h = h} walk go t) later all =
     record { rest = _; parts = listed t input text later (rw t.same_source at all) (walk-lists walk go later (rw t.same_source at all)) }
 walk_begins (reads {input = input} {text = text} walk go may f) later all = record { rest = _; parts = read-lists may f input text later (walk-lists walk go _ (λ e. never e may)) }
 

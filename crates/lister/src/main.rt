@@ -26,14 +26,14 @@ struct Held {
     ended: bool,
 }
 
-fn main() {
+fn main(rt: HostRuntime) {
     let mut out = io::large_buffer();
     let mut buf = io::large_buffer();
-    run(&mut out, &mut buf);
+    run(&rt, &mut out, &mut buf);
 }
 
 // A broken frame ends the run, the end of the input, a closed output, and a read that fails. Answers what is held then.
-fn run(out: &mut [u8], buf: &mut [u8]) -> Held
+fn run(rt: &HostRuntime, out: &mut [u8], buf: &mut [u8]) -> Held
     requires { longest_step ≤ length out.old }
     ensures { Ran buf.new result }
 {
@@ -47,7 +47,7 @@ fn run(out: &mut [u8], buf: &mut [u8]) -> Held
         ended: false,
     };
     while held.unbroken < MOST_FRAMES {
-        held = turn(out, buf, held);
+        held = turn(rt, out, buf, held);
         if held.ended {
             return held;
         }
@@ -56,25 +56,25 @@ fn run(out: &mut [u8], buf: &mut [u8]) -> Held
 }
 
 // Lists what is held, and reads only where that lists no frame. Each turn comes nearer to the end of the run.
-fn turn(out: &mut [u8], buf: &mut [u8], held: Held) -> Held
+fn turn(rt: &HostRuntime, out: &mut [u8], buf: &mut [u8], held: Held) -> Held
     requires longest_step_in_bounds { longest_step ≤ length out.old }
     requires sound { Sound buf.old held }
     requires unbroken_lt_most_frames { held.unbroken < most_frames }
     requires closed_value { held.sink.closed ≡ false }
     ensures { TurnTaken buf.old out.old out.new buf.new held result }
 {
-    let listed = list_held(out, buf, held);
+    let listed = list_held(rt, out, buf, held);
     if listed.ended {
         return listed;
     }
     if listed.at != held.at {
         return listed;
     }
-    refill(buf, listed)
+    refill(rt, buf, listed)
 }
 
 // Lists what is held, as far as out has room, and writes that.
-fn list_held(out: &mut [u8], buf: &[u8], held: Held) -> Held
+fn list_held(rt: &HostRuntime, out: &mut [u8], buf: &[u8], held: Held) -> Held
     requires sound { Sound buf.now held }
     requires unbroken_lt_most_frames { held.unbroken < most_frames }
     requires closed_value { held.sink.closed ≡ false }
@@ -87,7 +87,7 @@ fn list_held(out: &mut [u8], buf: &[u8], held: Held) -> Held
     let listed = listing::list_some(out, &buf[at..fill], last, held.unbroken);
     let put = listed.written;
     let size = out.len();
-    let sink = write_listed(&out[..put], buf, held, size);
+    let sink = write_listed(rt, &out[..put], buf, held, size);
     let ended = over(listed.ended, streaming::is_closed(sink));
     Held {
         at: at + listed.taken,
@@ -99,12 +99,12 @@ fn list_held(out: &mut [u8], buf: &[u8], held: Held) -> Held
 }
 
 // Writes the text of what is held, for a buffer of that size. The others are here for what it requires alone.
-fn write_listed(text: &[u8], buf: &[u8], held: Held, size: usize) -> Sink
+fn write_listed(rt: &HostRuntime, text: &[u8], buf: &[u8], held: Held, size: usize) -> Sink
     requires text_value { text.now ≡ (found_in size buf.now held).text }
     requires closed_value { held.sink.closed ≡ false }
     ensures { Wrote text.now held.sink result }
 {
-    streaming::write_text(text, held.sink)
+    streaming::write_text(rt, text, held.sink)
 }
 
 // The text ended the run, or the output is closed.
@@ -118,13 +118,13 @@ fn over(ended: bool, closed: bool) -> bool
 }
 
 // Reads once, behind what is held. A read that fails ends the run.
-fn refill(buf: &mut [u8], held: Held) -> Held
+fn refill(rt: &HostRuntime, buf: &mut [u8], held: Held) -> Held
     requires { Sound buf.old held }
     ensures { HeldRefilled buf.old buf.new held result }
 {
     let before = held.source;
     let sink = held.sink;
-    let more = streaming::read_more(buf, held.at, before);
+    let more = streaming::read_more(rt, buf, held.at, before);
     let ended = streaming::is_failed(more);
     Held {
         at: 0,

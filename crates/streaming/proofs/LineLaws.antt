@@ -1,5 +1,5 @@
 -- Laws of the lines of an input.
-use Rattle.std.proofs.Common.{◌≡◌, ℕ, zero, suc, ◌+◌, ◌<◌, ◌≤◌, Bool, true, false, eqb, List, [], ◌∷◌, ◌++◌, length, get_or, refl, ap, ◌∙◌, append_assoc, append-nil, arith, length-append, ne_eqb}
+use Rattle.std.proofs.Common.{◌≡◌, ℕ, zero, suc, ◌+◌, ◌<◌, ◌≤◌, Bool, true, false, eqb, List, [], ◌∷◌, ◌++◌, length, get_or, refl, ◌∙◌, append_assoc, append-nil, arith, length-append, ne_eqb}
 use Rattle.streaming.specs.Lines.{last_of, lines_from, lines_of, NoNewline}
 
 from-line : (f l s : List ℕ) → ((k : ℕ) → k < length l → get_or l k 0 ≡ 10 → ⊥) → lines_from f (l ++ 10 ∷ s) ≡ (f ++ l) ∷ lines_of s

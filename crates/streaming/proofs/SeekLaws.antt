@@ -1,5 +1,5 @@
 -- The search for the end of a line: what was dropped of it, and what is held.
-use Rattle.std.proofs.Common.{◌≡◌, ℕ, ◌+◌, ◌-◌, ◌<◌, ◌≤◌, Bool, true, false, T, List, [], ◌∷◌, ◌++◌, length, get_or, take, drop, sym, refl, ap, ◌∙◌, subst, append-nil, arith, length-append, length-drop, length-take-le, get_or-drop, drop-cons, get_or-take}
+use Rattle.std.proofs.Common.{◌≡◌, ℕ, ◌+◌, ◌-◌, ◌<◌, ◌≤◌, Bool, true, false, T, List, [], ◌∷◌, ◌++◌, length, get_or, take, drop, sym, refl, ◌∙◌, subst, append-nil, arith, length-append, length-drop, length-take-le, get_or-drop, drop-cons, get_or-take}
 use Rattle.text.specs.Marks.{FirstMark}
 use Rattle.streaming.specs.declared.input.Input.{Input}
 use Rattle.streaming.specs.Sources.{octets_from, Goes, here, reads}

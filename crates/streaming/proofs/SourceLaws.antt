@@ -25,13 +25,16 @@ module _ {kept : ℕ} {before : List ℕ} where
       let size : length (put_mid kept (length b - kept) b v) ≡ length b = same_len_mid kept (length b - kept) b v whole in
       record { enough = omega (arith, s.enough); front = take_put kept (length b - kept) b v s.enough ∙ s.front; size = size ∙ s.size }
 
-  pub some_read : (b : List ℕ) (n : ℕ) → SameFront kept before b → n ≤ length (take (length b - kept) (drop kept b)) → ReadBehind kept before b (record { octets = n; failed = false })
-  some_read b n s h = record {
-    front = s.front;
-    size = s.size;
-    inside = omega (arith, s.enough, length-drop kept b, length-take-le (length b - kept) (drop kept b) (omega (arith, length-drop kept b)));
-    nothing = λ e. absurd (subst T (sym e) tt);
-  }
+  pub some_read : (b v : List ℕ) (n : ℕ) → SameFront kept before b → length v ≡ length (take (length b - kept) (drop kept b)) → n ≤ length v
+      → ReadBehind kept before (put_mid kept (length b - kept) b v) (record { octets = n; failed = false })
+  some_read b v n s whole h =
+      let t : SameFront kept before (put_mid kept (length b - kept) b v) = tried b v s whole in
+      record {
+        front = t.front;
+        size = t.size;
+        inside = omega (arith, s.enough, s.size, t.size, length-drop kept b, length-take-le (length b - kept) (drop kept b) (omega (arith, length-drop kept b)));
+        nothing = λ e. absurd (subst T (sym e) tt);
+      }
 
   pub none_read : {b : List ℕ} {got : Got} → SameFront kept before b → got ≡ no_octets → ReadBehind kept before b got
   none_read {b} s e = subst (ReadBehind kept before b) (sym e) (record { front = s.front; size = s.size; inside = omega (arith, s.enough); nothing = λ _. refl })
@@ -101,7 +104,7 @@ module _ {b : List ℕ} {at : ℕ} {s : Source} where
   goes_over (reads g o m) e = absurd (subst T (sym (goes_over g e).0 ∙ o) tt)
 
   -- one after the other
-  pub goes_then : {c d : List ℕ} {n m : ℕ} {t u : Source} {read taken read' taken' : List ℕ} → Goes b at s c n t read taken → Goes c n t d m u read' taken'
+  pub goes_then : {c : List ℕ} {n : ℕ} {t : Source} {d : List ℕ} {m : ℕ} {u : Source} {read taken read' taken' : List ℕ} → Goes b at s c n t read taken → Goes c n t d m u read' taken'
       → Goes b at s d m u (read ++ read') (taken ++ taken')
   goes_then {c} {n = n} {t = t} {read = read} {taken = taken} g here =
       subst (λ (l : List ℕ). Goes b at s c n t l (taken ++ [])) (sym (append-nil read)) (subst (λ (l : List ℕ). Goes b at s c n t read l) (sym (append-nil taken)) g)

@@ -1,5 +1,5 @@
 -- What is known of the line that is held, and of the octets around it.
-use Rattle.std.specs.Prelude.{◌≡◌, ℕ, ◌+◌, ◌-◌, ◌<◌, ◌≤◌, Bool, true, false, List, [], ◌∷◌, ◌++◌, length, take, drop}
+use Rattle.std.specs.Prelude.{◌≡◌, ℕ, ◌-◌, ◌<◌, ◌≤◌, Bool, true, false, List, [], ◌∷◌, ◌++◌, length, take, drop}
 use Rattle.streaming.specs.declared.input.Input.{Input}
 use Rattle.streaming.specs.Sources.{unread_yet, ReadMore, Goes}
 use Rattle.streaming.specs.Lines.{NoNewline}

@@ -1,5 +1,5 @@
 -- THE LINES of an input.
-use Rattle.std.specs.Prelude.{◌≡◌, ℕ, ◌<◌, cond, List, [], ◌∷◌, ◌++◌, length, ◌==◌, ◌≢◌, slice_index}
+use Rattle.std.specs.Prelude.{ℕ, ◌<◌, cond, List, [], ◌∷◌, ◌++◌, length, ◌==◌, ◌≢◌, slice_index}
 
 -- what is left at the end of the input is a line, too, unless it is nothing
 abbrev pub last_of : List ℕ → List (List ℕ)

@@ -53,7 +53,7 @@ pub fn held_line(block: &[u8; 65536], before: Input) -> Input
 }
 
 // Goes on to the next line. The end of the input ends a last line, too; a read that failed ends none.
-pub fn read_line(block: &mut [u8; 65536], before: Input) -> Input
+pub fn read_line(rt: &HostRuntime, block: &mut [u8; 65536], before: Input) -> Input
     requires { SoundInput before }
     ensures { NextLine block.old block.new before result }
 {
@@ -71,7 +71,7 @@ pub fn read_line(block: &mut [u8; 65536], before: Input) -> Input
         if source::is_over(source) {
             return last_line(input);
         }
-        input = refilled(block, shortened(input));
+        input = refilled(rt, block, shortened(input));
         reads -= 1;
     }
     input
@@ -159,14 +159,14 @@ fn shortened(before: Input) -> Input
 }
 
 // Reads once, behind what is not yet taken.
-fn refilled(block: &mut [u8], before: Input) -> Input
+fn refilled(rt: &HostRuntime, block: &mut [u8], before: Input) -> Input
     requires block_len { length block.old ≡ 65536 }
     requires sound_input { SoundInput before }
     ensures { Refilled block.old block.new before result }
 {
     let mut input = before;
     let source = input.source;
-    let more = source::read_more(block, input.taken, source);
+    let more = source::read_more(rt, block, input.taken, source);
     input.source = more;
     input.taken = 0;
     input

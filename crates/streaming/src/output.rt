@@ -43,20 +43,20 @@ pub fn no_output() -> Output
 }
 
 // Writes the answers if there is no room for one more of so many octets.
-pub fn make_room(out: &[u8; 65536], output: Output, longest: usize) -> Output
+pub fn make_room(rt: &HostRuntime, out: &[u8; 65536], output: Output, longest: usize) -> Output
     requires sound_output { SoundOutput output }
     requires closed_value { output.sink.closed ≡ false }
     requires longest_bound { longest ≤ 65536 }
     ensures { MadeRoom longest out.now output result }
 {
     if ROOM - output.put < longest {
-        return written(out, output);
+        return written(rt, out, output);
     }
     output
 }
 
 // Goes on to the next line. Before anything is read the answers are written, so that none waits for what is not there yet.
-pub fn next_line(out: &[u8; 65536], block: &mut [u8; 65536], before: Run) -> Run
+pub fn next_line(rt: &HostRuntime, out: &[u8; 65536], block: &mut [u8; 65536], before: Run) -> Run
     requires sound_input { SoundInput before.input }
     requires sound_output { SoundOutput before.output }
     requires closed_value { before.output.sink.closed ≡ false }
@@ -67,25 +67,25 @@ pub fn next_line(out: &[u8; 65536], block: &mut [u8; 65536], before: Run) -> Run
     if input.ready {
         return Run { input, output };
     }
-    let output = written(out, output);
+    let output = written(rt, out, output);
     if sink::is_closed(output.sink) {
         return Run { input, output };
     }
-    let input = read_on(block, input, output);
+    let input = read_on(rt, block, input, output);
     Run { input, output }
 }
 
 // Reads the next line, where no answer is left to be written. The answers are here for what it requires alone.
-fn read_on(block: &mut [u8; 65536], input: Input, output: Output) -> Input
+fn read_on(rt: &HostRuntime, block: &mut [u8; 65536], input: Input, output: Output) -> Input
     requires sound_input { SoundInput input }
     requires put_value { output.put ≡ 0 }
     ensures { NextLine block.old block.new input result }
 {
-    input::read_line(block, input)
+    input::read_line(rt, block, input)
 }
 
 // Writes the answers that are left and, unless a read failed, the number of lines. Nothing is written after a write that failed.
-pub fn write_end(out: &mut [u8; 65536], before: Run) -> Run
+pub fn write_end(rt: &HostRuntime, out: &mut [u8; 65536], before: Run) -> Run
     requires { SoundOutput before.output }
     ensures { WritesEnd out.old out.new before result }
 {
@@ -95,36 +95,36 @@ pub fn write_end(out: &mut [u8; 65536], before: Run) -> Run
         return before;
     }
     if source::is_failed(input.source) {
-        let output = written(out, output);
+        let output = written(rt, out, output);
         return Run { input, output };
     }
-    let output = end_written(out, output);
+    let output = end_written(rt, out, output);
     Run { input, output }
 }
 
 // Writes the answers that are left, and the number of lines.
-fn end_written(out: &mut [u8; 65536], output: Output) -> Output
+fn end_written(rt: &HostRuntime, out: &mut [u8; 65536], output: Output) -> Output
     requires sound_output { SoundOutput output }
     requires closed_value { output.sink.closed ≡ false }
     ensures { EndWritten out.old out.new output result }
 {
-    let mut left = make_room(out, output, LONGEST_END);
+    let mut left = make_room(rt, out, output, LONGEST_END);
     if sink::is_closed(left.sink) {
         return left;
     }
     left.put = text::put_end(out, left.put, left.answered);
-    written(out, left)
+    written(rt, out, left)
 }
 
 // Writes the answers that are put.
-fn written(out: &[u8], output: Output) -> Output
+fn written(rt: &HostRuntime, out: &[u8], output: Output) -> Output
     requires out_len { length out.now ≡ 65536 }
     requires sound_output { SoundOutput output }
     requires closed_value { output.sink.closed ≡ false }
     ensures { Written out.now output result }
 {
     let put = output.put;
-    let sink = write_put(&out[0..put], out, output);
+    let sink = write_put(rt, &out[0..put], out, output);
     Output {
         put: 0,
         answered: output.answered,
@@ -133,10 +133,10 @@ fn written(out: &[u8], output: Output) -> Output
 }
 
 // Writes the text of the answers that are put. The answers are here for what it requires alone.
-fn write_put(text: &[u8], out: &[u8], output: Output) -> Sink
+fn write_put(rt: &HostRuntime, text: &[u8], out: &[u8], output: Output) -> Sink
     requires text_value { text.now ≡ take output.put out.now }
     requires closed_value { output.sink.closed ≡ false }
     ensures { Wrote text.now output.sink result }
 {
-    sink::write_text(text, output.sink)
+    sink::write_text(rt, text, output.sink)
 }

@@ -4,6 +4,7 @@ ghost use Rattle.std.specs.Prelude.{◌≡◌, ◌≤◌, length};
 ghost use Rattle.streaming.specs.Sources.{unread_yet, no_octets, ReadBehind, ReadMore};
 
 use crate::{block, calls};
+use std::io::{Error, Read};
 
 #[derive(Clone, Copy)]
 pub struct Source {
@@ -51,14 +52,14 @@ pub fn is_failed(source: Source) -> bool
 }
 
 // Moves the octets from `at` on to the start, and reads once, behind them.
-pub fn read_more(buf: &mut [u8], at: usize, source: Source) -> Source
+pub fn read_more(rt: &HostRuntime, buf: &mut [u8], at: usize, source: Source) -> Source
     requires { (at ≤ source.fill) × (source.fill ≤ length buf.old) }
     ensures { ReadMore buf.old buf.new at source result }
 {
     let fill = source.fill;
     block::shift(buf, at, fill);
     let kept = fill - at;
-    let got = read_behind(buf, kept);
+    let got = read_behind(rt, buf, kept);
     let more = got.octets;
     let failed = got.failed;
     Source {
@@ -69,33 +70,35 @@ pub fn read_more(buf: &mut [u8], at: usize, source: Source) -> Source
 }
 
 // Reads once, behind so many octets, and says how many came. A read that fails brings none, and is said on standard error.
-fn read_behind(buf: &mut [u8], kept: usize) -> Got
+fn read_behind(rt: &HostRuntime, buf: &mut [u8], kept: usize) -> Got
     requires { kept ≤ length buf.old }
     ensures { ReadBehind kept buf.old buf.new result }
 {
     let mut tries = calls::MOST_TRIES;
     while tries > 0 {
-        let got = libc::read(0, &mut buf[kept..]);
-        if 0 <= got {
-            let octets = io::count(got, &buf[kept..]);
-            return Got {
-                octets,
-                failed: false,
-            };
-        }
-        if !calls::again() {
-            return nothing_read();
+        match rt.stdin().read(&mut buf[kept..]) {
+            Ok(octets) => {
+                return Got {
+                    octets,
+                    failed: false,
+                };
+            }
+            Err(error) => {
+                if !calls::again(error) {
+                    return nothing_read(rt, error);
+                }
+            }
         }
         tries -= 1;
     }
-    nothing_read()
+    nothing_read(rt, calls::cut_short())
 }
 
 // Says on standard error that a read failed, and why.
-fn nothing_read() -> Got
+fn nothing_read(rt: &HostRuntime, error: Error) -> Got
     ensures { result ≡ no_octets }
 {
-    os::fail(b"gad: standard input");
+    calls::fail(rt, "gad: standard input", error);
     Got {
         octets: 0,
         failed: true,

@@ -14,11 +14,11 @@ ghost use Rattle.streaming.specs.Inputs.{SoundInput};
 use streaming::Input;
 
 // Prints an answer for each line, and answers how many there were.
-fn take_lines(block: &mut [u8; 65536]) -> u64 {
+fn take_lines(rt: &HostRuntime, block: &mut [u8; 65536]) -> u64 {
     let mut input = streaming::no_input();
     let mut lines: u64 = 0;
     while lines < u64::MAX {
-        input = streaming::read_line(block, input);
+        input = streaming::read_line(rt, block, input);
         if !input.ready {
             return lines;
         }
@@ -51,9 +51,9 @@ fn take_case(line: &[u8]) {
     calls::call(verb::named(&line[0..end]), given::numbers_in(&line[from..]));
 }
 
-fn main() {
+fn main(rt: HostRuntime) {
     let mut block = io::large_buffer();
-    let lines = take_lines(&mut block);
+    let lines = take_lines(&rt, &mut block);
     io::write_all(1, b"end ");
     io::print_decimal(1, lines);
     io::write_all(1, b"\n");
