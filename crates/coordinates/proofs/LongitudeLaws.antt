@@ -2,14 +2,14 @@
 use mathlib.Core.Path.{◌≡◌, refl, sym, ap, ◌∙◌, subst}
 use mathlib.Core.Bool.{Bool, true, false, cond}
 use mathlib.Core.Logic.{◌⊎◌, inl, inr, ⊎_elim}
-use Prim.Native.Nat.{ℕ, zero, suc, ◌+◌, ◌-◌, ◌*◌, ◌/◌, ◌^◌, ◌≤◌, ◌<◌}
+use Prim.Native.Nat.{ℕ, suc, ◌+◌, ◌-◌, ◌*◌, ◌/◌, ◌%◌, ◌^◌, ◌≤◌, ◌<◌}
 use native.Mathlib.Nat.{add-mul, one-mul}
 use native.Mathlib.Omega.{arith}
 use lib.Dec.{T, eqb}
-use lib.IntN.{ℤ, pos, negsuc, nat_abs, sub_ℕ, ◌+ℤ◌, ◌-ℤ◌, ◌*ℤ◌, +ℤ_idl}
-use lib.Signed.{mag, lt_z}
-use borrow.Author.Tests.{eqb-true}
-use mir.Syntax.{Width, w64}
+use lib.IntN.{ℤ, pos, negsuc, nat_abs, sub_ℕ, ◌+ℤ◌, ◌-ℤ◌, ◌*ℤ◌}
+use lib.Signed.{mag}
+use borrow.Author.Tests.{eqb-true, eqb-false}
+use mir.Syntax.{Width}
 use mir.Val.{SFits, hbits, to_z, of_z}
 use mir.Facts.{to_z_pos, to_z-of_z}
 use Rattle.ground.specs.Signs.{is_negative, parts_of}
@@ -17,7 +17,7 @@ use Rattle.ground.specs.Sets.{LowestOf}
 use Rattle.ground.specs.declared.signs.Parts.{Parts}
 use Rattle.coordinates.specs.Halves.{up, down, Less}
 use Rattle.coordinates.specs.Longitude.{TurnStep, meridian, LongitudeSet}
-use Rattle.coordinates.proofs.PartLaws.{sub_parts, add_parts, mul-parts, le_parts, parts-le, lt-parts, parts-lt, test-true, test-false}
+use Rattle.coordinates.proofs.PartLaws.{sub_parts, add_parts, mul-parts, le_parts, parts-le, lt-parts, parts-lt}
 
 -- ---- a step's two orders in natural numbers, for every width and unit
 
@@ -72,7 +72,27 @@ module _ (x : ℤ) {p : Parts} (half : ℕ) (e : p ≡ parts_of x) (h : p.size �
   pub raised-east : p.negative ≡ false → half + p.size + down x ≡ up x + half
   raised-east t = rw size ((raised-parts x half (omega (arith, size))).1 (sym sign ∙ t))
 
--- ---- no number but +180 degrees is taken for another
+-- ---- the code: u is x + 180 degrees, and m, reduced, is N + 2^23
+
+bits_of : (N : ℤ) (m : ℕ) → m < 16777216 → Less N m 8388608 → mag N < 8388608
+bits_of (pos n) m h e = omega arith
+bits_of (negsuc n) m h e = omega arith
+
+stepped : (N y : ℤ) (u m : ℕ) → u < 360000000000 → u + down y ≡ up y + 180000000000 → m ≡ u * 16777216 / 360000000000 → Less N m 8388608 → TurnStep 24 1000000000 N y
+stepped N y u m h e q n = linear→step 24 1000000000 N y (record { from = omega arith; below = omega arith })
+
+east : (t : Bool) (n : ℕ) → eqb n 180000000000 ≡ t → (N : ℤ) (u m : ℕ) → n ≤ 180000000000 → u ≡ n + 180000000000 → m ≡ u * 16777216 / 360000000000 % 16777216 → Less N m 8388608 → TurnStep 24 1000000000 N (cond t (negsuc 179999999999) (pos n))
+east true n t N u m h e q p =
+    let z : u ≡ 360000000000 = omega (arith, eqb-true n 180000000000 t) in
+    let w : m ≡ 0 = q ∙ ap (λ (k : ℕ). k * 16777216 / 360000000000 % 16777216) z in
+    stepped N (negsuc 179999999999) 0 0 (omega arith) refl refl (omega arith)
+east false n t N u m h e q p = let z : n ≡ 180000000000 → ⊥ = eqb-false n 180000000000 t in stepped N (pos n) u m (omega arith) (omega arith) (omega arith) p
+
+pub coded : (x N : ℤ) (u m : ℕ) → nat_abs x ≤ 180000000000 → u + down x ≡ up x + 180000000000 → m ≡ u * 16777216 / 360000000000 % 16777216 → Less N m 8388608 → LongitudeSet N x
+coded (pos n) N u m h e q p = record { bits = bits_of N m (omega arith) p; step = east (eqb n 180000000000) n refl N u m h (omega arith) q p }
+coded (negsuc n) N u m h e q p = record { bits = bits_of N m (omega arith) p; step = stepped N (negsuc n) u m (omega arith) e (omega arith) p }
+
+-- ---- the report: m is N + 2^23, and u, the least at or above m's start, is x + 180 degrees
 
 meridian-by : (t : Bool) (n : ℕ) → eqb n 180000000000 ≡ t → n < 180000000000 → cond t (negsuc 179999999999) (pos n) ≡ pos n
 meridian-by true n t h = absurd (omega (arith, eqb-true n 180000000000 t))
@@ -82,66 +102,6 @@ meridian-same : (x : ℤ) → up x < 180000000000 → meridian x ≡ x
 meridian-same (pos n) h = meridian-by (eqb n 180000000000) n refl h
 meridian-same (negsuc n) h = refl
 
--- ---- the code: s steps away from zero, of 2^24 in a turn
-
--- in the west N goes down from -1: s steps do not reach as far, and one more does
-pub west : (x N : ℤ) (s : ℕ) → up x < down x → down x ≤ 180000000000 → s * 360000000000 < down x * 16777216 → down x * 16777216 ≤ s * 360000000000 + 360000000000 → up N + (1 + s) ≡ down N → LongitudeSet N x
-west (pos n) N s h r a b e = absurd (omega arith)
-west (negsuc n) (pos k) s h r a b e = absurd (omega arith)
-west (negsuc n) (negsuc k) s h r a b e = record { bits = omega arith; step = linear→step 24 1000000000 (negsuc k) (negsuc n) (record { from = omega arith; below = omega arith }) }
-
--- +180 degrees is -180
-pub half-turn : (N : ℤ) → up N + 8388608 ≡ down N → LongitudeSet N (pos 180000000000)
-half-turn N e =
-    let there = west (negsuc 179999999999) N 8388607 (omega arith) (omega arith) (omega arith) (omega arith) (omega arith) in
-    record { bits = there.bits; step = there.step }
-
--- in the east the greatest number of steps that reaches no farther
-pub east : (x : ℤ) (s : ℕ) → down x ≡ 0 → up x < 180000000000 → s * 360000000000 ≤ up x * 16777216 → up x * 16777216 < s * 360000000000 + 360000000000 → LongitudeSet (pos s) x
-east (pos n) s z h a b = record { bits = omega arith; step = rw (meridian-same (pos n) h) (linear→step 24 1000000000 (pos s) (pos n) (record { from = omega arith; below = omega arith })) }
-east (negsuc n) s z h a b = absurd (omega arith)
-
--- ---- what the coder's tests and casts say of x
-
-pub one-part : (x : ℤ) → (up x ≡ 0) ⊎ (down x ≡ 0)
-one-part (pos n) = inr refl
-one-part (negsuc n) = inl refl
-
-near_by : (x : ℤ) → lt_z x (negsuc 179999999999) ≡ false → lt_z (pos 180000000000) x ≡ false → (of_z w64 x ≡ 180000000000 → ⊥) → (down x ≤ 180000000000) × (up x < 180000000000)
-near_by (pos n) l r h = (omega arith, omega (arith, test-false (pos 180000000000) (pos n) r))
-near_by (negsuc n) l r h = (omega (arith, test-false (negsuc n) (negsuc 179999999999) l), omega arith)
-
-negated : (x : ℤ) → up x < down x → pos 0 -ℤ x ≡ pos (down x)
-negated (pos n) h = absurd (omega arith)
-negated (negsuc n) h = +ℤ_idl (pos (suc n))
-
-upright : (x : ℤ) → down x ≡ 0 → x ≡ pos (up x)
-upright (pos n) e = refl
-upright (negsuc n) e = absurd (omega arith)
-
-module _ {x : ℤ} (f : SFits w64 x) where
-  pub near : lt_z (to_z w64 (of_z w64 x)) (negsuc 179999999999) ≡ false → lt_z (pos 180000000000) (to_z w64 (of_z w64 x)) ≡ false → (of_z w64 x ≡ 180000000000 → ⊥) → (down x ≤ 180000000000) × (up x < 180000000000)
-  near l r h = near_by x (rw (to_z-of_z f) at l) (rw (to_z-of_z f) at r) h
-
-  module _ (e : lt_z (to_z w64 (of_z w64 x)) (pos 0) ≡ true) where
-    pub in-west : up x < down x
-    in-west = omega (arith, test-true x (pos 0) (rw (to_z-of_z f) at e))
-
-    pub west-fits : down x ≤ 180000000000 → SFits w64 (pos 0 -ℤ to_z w64 (of_z w64 x))
-    west-fits h = rw (to_z-of_z f, negated x in-west) (record { sfits = omega arith })
-
-    pub west-cast : down x ≤ 180000000000 → to_z w64 (of_z w64 (pos 0 -ℤ to_z w64 (of_z w64 x))) ≡ pos (down x)
-    west-cast h = to_z-of_z (west-fits h) ∙ rw (to_z-of_z f) (negated x in-west)
-
-  module _ (e : lt_z (to_z w64 (of_z w64 x)) (pos 0) ≡ false) where
-    pub in-east : down x ≡ 0
-    in-east = ⊎_elim (λ z. omega (arith, test-false x (pos 0) (rw (to_z-of_z f) at e))) (λ z. z) (one-part x)
-
-    pub east-cast : to_z w64 (of_z w64 x) ≡ pos (up x)
-    east-cast = to_z-of_z f ∙ upright x in-east
-
--- ---- the report: m is N + 2^23, and u, the least at or above m's start, is x + 180 degrees
-
 low_by : (t : Bool) (n : ℕ) → up (cond t (negsuc 179999999999) (pos n)) ≤ n + down (cond t (negsuc 179999999999) (pos n))
 low_by true n = omega arith
 low_by false n = omega arith
@@ -150,6 +110,10 @@ low_by false n = omega arith
 meridian-low : (y : ℤ) → up (meridian y) + down y ≤ up y + down (meridian y)
 meridian-low (pos n) = omega (arith, low_by (eqb n 180000000000) n)
 meridian-low (negsuc n) = omega arith
+
+pub one-part : (x : ℤ) → (up x ≡ 0) ⊎ (down x ≡ 0)
+one-part (pos n) = inr refl
+one-part (negsuc n) = inl refl
 
 pub reported : (N x : ℤ) (m u : ℕ) → mag N < 8388608 → m < 16777216 → m + down N ≡ up N + 8388608 → u ≡ (m * 360000000000 + 16777215) / 16777216 → Less x u 180000000000 → LowestOf (LongitudeSet N) x
 reported N x m u b k e q p =
@@ -172,9 +136,8 @@ pub size-beyond : (N : ℤ) → 8388608 < nat_abs N → 8388608 ≤ mag N
 size-beyond (pos n) h = omega arith
 size-beyond (negsuc n) h = omega arith
 
--- ---- what is worked out at any width that holds it
+-- ---- m - (k + 1), worked out at any width that holds both
 
--- m - (k + 1)
 less-small : (z : ℤ) (m k half : ℕ) → Less z m (suc k) → m < half → k < half → mag z < half
 less-small (pos n) m k half e h l = omega arith
 less-small (negsuc n) m k half e h l = omega arith
@@ -185,15 +148,3 @@ module _ (w : Width) (m k : ℕ) (h : m < 2 ^ hbits w) (l : k < 2 ^ hbits w) whe
 
   pub less-is : Less (to_z w (of_z w (to_z w m -ℤ pos (suc k)))) m (suc k)
   less-is = rw (to_z-of_z less-fits, to_z_pos w h) (sub_parts m (suc k))
-
--- -1 - s
-under : (s : ℕ) → negsuc 0 -ℤ pos s ≡ negsuc s
-under zero = refl
-under (suc s) = let e : suc (0 + s) ≡ suc s = omega arith in ap negsuc e
-
-module _ (w : Width) (s : ℕ) (h : s < 2 ^ hbits w) where
-  pub under-fits : SFits w (negsuc 0 -ℤ to_z w s)
-  under-fits = rw (to_z_pos w h, under s) (record { sfits = h })
-
-  pub under-is : to_z w (of_z w (negsuc 0 -ℤ to_z w s)) ≡ negsuc s
-  under-is = to_z-of_z under-fits ∙ rw (to_z_pos w h) (under s)

@@ -1,13 +1,13 @@
 -- A ℤ as two natural numbers, what it is above zero and what it is below, so that `omega` reads orders of ℤ: a ≤ b is up a + down b ≤ up b + down a.
 --
-use mathlib.Core.Path.{◌≡◌, refl, sym, ◌∙◌, subst}
+use mathlib.Core.Path.{◌≡◌, refl, sym, ◌∙◌}
 use mathlib.Core.Bool.{Bool, true, false, cond}
 use Prim.Native.Nat.{ℕ, zero, suc, ◌+◌, ◌*◌, ◌-◌, ◌≤◌, ◌<◌}
 use native.Mathlib.Nat.{zero-mul}
 use native.Mathlib.Omega.{arith}
-use lib.Dec.{T, ltb, leb→le, ltb→lt, le→leb, lt→ltb}
+use lib.Dec.{ltb, leb→le, ltb→lt, le→leb, lt→ltb}
 use lib.IntN.{ℤ, pos, negsuc, neg_ℤ, nat_abs, sub_ℕ, ◌+ℤ◌, ◌*ℤ◌}
-use lib.Signed.{lt_z, ◌≤ℤ◌, ◌<ℤ◌}
+use lib.Signed.{◌≤ℤ◌, ◌<ℤ◌}
 use Rattle.coordinates.specs.Halves.{up, down}
 use borrow.Author.Tests.{ltb-true, ltb-false}
 
@@ -59,13 +59,3 @@ parts-lt (negsuc a) (negsuc b) h = record { lt = lt→ltb b a (omega arith) }
 pub abs-parts : (a : ℤ) → up a + down a ≡ nat_abs a
 abs-parts (pos n) = omega arith
 abs-parts (negsuc n) = omega arith
-
--- what the code's test of two numbers says
-pub test-true : (a b : ℤ) → lt_z a b ≡ true → up a + down b < up b + down a
-test-true a b e = lt-parts a b (record { lt = subst T (sym e) tt })
-
-pub test-false : (a b : ℤ) → lt_z a b ≡ false → up b + down a ≤ up a + down b
-test-false (pos a) (pos b) e = omega (arith, ltb-false a b e)
-test-false (pos a) (negsuc b) e = omega arith
-test-false (negsuc a) (pos b) e = absurd (subst T e tt)
-test-false (negsuc a) (negsuc b) e = omega (arith, ltb-false b a e)

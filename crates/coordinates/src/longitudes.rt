@@ -1,4 +1,5 @@
-// Longitude: steps of 360 / 2^24 degrees, each with its lower end.
+// Longitude: steps of 360 / 2^24 degrees, counted down. Half a turn is added, and taken off again, so that no step is
+// counted below zero.
 ghost use Rattle.std.specs.Prelude.{◌<◌};
 ghost use Rattle.coordinates.specs.Halves.{Less};
 ghost use Rattle.coordinates.specs.Longitude.{CodedLongitude, ReportedLongitude};
@@ -12,34 +13,25 @@ pub enum LongitudeCoded {
     Refused(Refusal),
 }
 
-// The floor. To the east a step counts when it is whole; to the west steps go down from -1, and a step's lower end is still in it.
-// +180 degrees is the meridian of -180.
+// The remainder takes +180 degrees, a whole turn once half a turn is added, to the meridian of -180.
 pub fn longitude_code(longitude: Nanodegrees) -> LongitudeCoded
     ensures { CodedLongitude longitude result }
 {
-    let x = longitude.0;
-    if x < -180000000000 {
+    let parts = ground::taken_apart(Whole(longitude.0));
+    let size = parts.size;
+    if 180000000000 < size {
         return LongitudeCoded::Refused(Refusal::OutOfRange);
     }
-    if 180000000000 < x {
-        return LongitudeCoded::Refused(Refusal::OutOfRange);
-    }
-    if x == 180000000000 {
-        return LongitudeCoded::Code(LongitudeCode(-8388608));
-    }
-    let steps = if x < 0 {
-        ((-x) as u64 * 16777216 - 1) / 360000000000
+    let turned = if parts.negative {
+        180000000000 - size
     } else {
-        x as u64 * 16777216 / 360000000000
+        180000000000 + size
     };
-    if x < 0 {
-        return LongitudeCoded::Code(LongitudeCode(-1 - steps as i32));
-    }
-    LongitudeCoded::Code(LongitudeCode(steps as i32))
+    let steps = turned * 16777216 / 360000000000 % 16777216;
+    LongitudeCoded::Code(code_of(steps as u32))
 }
 
-// The whole nanodegree at or above the step's lower end. Half a turn is added, and taken off again, so that it is rounded up in
-// the west, too.
+// The whole nanodegree at or above the step's lower end.
 pub fn reported_longitude(code: LongitudeCode) -> CoordinateReported
     ensures { ReportedLongitude code result }
 {
@@ -58,6 +50,14 @@ pub fn reported_longitude(code: LongitudeCode) -> CoordinateReported
     }
     let turned = (steps * 360000000000 + 16777215) / 16777216;
     CoordinateReported::Coordinate(lowered(turned))
+}
+
+// The code of a step, less half a turn.
+fn code_of(steps: u32) -> LongitudeCode
+    requires { steps < 16777216 }
+    ensures { Less result.0 steps 8388608 }
+{
+    LongitudeCode(steps as i32 - 8388608)
 }
 
 // The longitude, less half a turn.
