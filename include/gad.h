@@ -1,7 +1,7 @@
 /*
  * Iachromel: Geographical Area Descriptions (3GPP TS 23.032), octets to quantities and back, in whole numbers.
  *
- * Link with libdesk.a (`rt staticlib desk`). Every function is proved to answer every call; what each of them says of the numbers in its
+ * Link with libdesk.a (`bindings/library` builds it). Every function is proved to answer every call; what each of them says of the numbers in its
  * arrays is written in crates/library/specs/Promises.antt.
  *
  * ARRAYS. Each array is a pointer and, next to it, the number of its elements (octets for messages). A null pointer with length 0 is

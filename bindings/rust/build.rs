@@ -1,4 +1,4 @@
-//! Links libdesk.a, which `rt staticlib desk` writes. GAD_LIBRARY_DIR says where it is.
+//! Links libdesk.a, which `bindings/library` builds. GAD_LIBRARY_DIR says where it is.
 
 use std::env;
 use std::path::PathBuf;

@@ -1,4 +1,4 @@
-// The library's C interface (include/gad.h): the eleven functions that `rt staticlib desk` exports. Each answers with the number of the
+// The library's C interface (include/gad.h): the eleven functions that the static library exports. Each answers with the number of the
 // function of `library` that it calls.
 #![tactic(auto)]
 

@@ -106,7 +106,6 @@ pub held : (x : Shape) (vs : List Val) → Is (row the_type) x vs → Held x
 held x vs g =
     let f = g.1.1 in
     let l = f.1.1.1.1.1.1.1.1.1.1.1.1.1.1 in
-    let q = l.1.0.1.1 in
     record { latitudes = l.0.1.0.1; longitudes = l.1.0.1.0.1; turn = omega (arith, f.1.1.0.1.1.0); turns = each-held x.longitudes _ l.1.0.1.1 }
 
 -- ---- the record
