@@ -1,6 +1,6 @@
 -- The answers that the reader's parts give to a kind, a count and a length are those of the kind's rows.
 use Prim.Native.Nat.{ℕ, ◌+◌, ◌*◌, ◌<◌, ◌≤◌}
-use mathlib.Core.Path.{◌≡◌, sym, subst}
+use mathlib.Core.Path.{◌≡◌, refl, sym, subst}
 use native.Mathlib.Omega.{arith}
 use Rattle.ground.specs.Answers.{unmet, met}
 use Rattle.layout.specs.declared.shape.Kind.{Kind}
@@ -33,3 +33,10 @@ module _ (n octets m : ℕ) where
 
   pub enough : n < 16 → 3 ≤ n → LengthAnswer (1 + 6 * n) octets m → MessageFormAnswer Polygon n octets m
   enough l h a = met listed (met (record { least = λ u. h; most = λ u. omega arith }) (rw (polygon-length n) a))
+
+module _ {n octets : ℕ} where
+  pub polygon_of_wrong_length : n < 16 → 3 ≤ n → (octets ≡ 1 + 6 * n → ⊥) → MessageFormAnswer Polygon n octets 3
+  polygon_of_wrong_length l h w = enough n octets 3 l h (unmet w refl)
+
+  pub polygon_of_its_length : n < 16 → 3 ≤ n → octets ≡ 1 + 6 * n → MessageFormAnswer Polygon n octets 0
+  polygon_of_its_length l h e = enough n octets 0 l h (met e refl)

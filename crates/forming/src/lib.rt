@@ -50,6 +50,7 @@ fn of_length(length: usize, whole: usize) -> Outcome
 }
 
 // 4 and 3. Four bits hold no count above 15.
+#[tactic(auto, using(crate::proofs::AnswerKinds::polygon_of_wrong_length, crate::proofs::AnswerKinds::polygon_of_its_length))]
 fn polygon(length: usize, n: u8) -> Outcome
     requires { n < 16 }
     ensures { MessageFormAnswer Polygon n length (outcome_number result) }
