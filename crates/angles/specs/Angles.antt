@@ -1,6 +1,6 @@
 -- Offset, included angle, orientation and bearing, in millidegrees.
-use Rattle.std.specs.Prelude.{ℕ, ◌≤◌}
-use Rattle.ground.specs.Answers.{number_of, Said, done, refused, Answer}
+use Rattle.std.specs.Prelude.{ℕ, ◌-◌, ◌*◌, ◌≤◌, Result}
+use Rattle.ground.specs.Answers.{Said, Answer, said_of}
 use Rattle.ground.specs.Counts.{angle_codes, bearing_codes}
 use Rattle.ground.specs.Sets.{LeastOf, GreatestOf, Outside}
 use Rattle.ground.specs.declared.quantity.Millidegrees.{Millidegrees}
@@ -8,17 +8,8 @@ use Rattle.ground.specs.declared.code.OffsetCode.{OffsetCode}
 use Rattle.ground.specs.declared.code.IncludedCode.{IncludedCode}
 use Rattle.ground.specs.declared.code.OrientationCode.{OrientationCode}
 use Rattle.ground.specs.declared.code.BearingCode.{BearingCode}
-use Rattle.angles.specs.declared.OffsetCoded.{OffsetCoded}
-use Rattle.angles.specs.declared.OffsetCoded.TheVariants as offset
-use Rattle.angles.specs.declared.IncludedCoded.{IncludedCoded}
-use Rattle.angles.specs.declared.IncludedCoded.TheVariants as included
-use Rattle.angles.specs.declared.OrientationCoded.{OrientationCoded}
-use Rattle.angles.specs.declared.OrientationCoded.TheVariants as orientation
-use Rattle.angles.specs.declared.BearingCoded.{BearingCoded}
-use Rattle.angles.specs.declared.BearingCoded.TheVariants as bearing
-use Rattle.angles.specs.declared.AngleReported.{AngleReported}
-use Rattle.angles.specs.declared.AngleReported.TheVariants as angle
 use Rattle.ground.specs.Steps.{Step, UpperStep}
+use Rattle.ground.specs.declared.refusals.Refusal.{Refusal}
 
 -- ---- the sets: N from 0 to 179, for a bearing to 359
 
@@ -64,46 +55,33 @@ BearingReporting c = Answer (λ a. LeastOf (BearingSet c) a.0) 5 (bearing_codes 
 
 -- ---- what the functions answer
 
-abbrev pub said_offset : OffsetCoded → Said OffsetCode
-said_offset (offset.Code c) = done c
-said_offset (offset.Refused why) = refused (number_of why)
+-- of steps of one unit
+abbrev pub CodedStep : ℕ → ℕ → ℕ → Result ℕ Refusal → Type 0
+CodedStep unit steps a r = Answer (λ N. Step unit (steps - 1) N a) 7 (unit * steps ≤ a) (said_of r)
 
-abbrev pub said_included : IncludedCoded → Said IncludedCode
-said_included (included.Code c) = done c
-said_included (included.Refused why) = refused (number_of why)
+abbrev pub ReportedStep : ℕ → ℕ → ℕ → Result Millidegrees Refusal → Type 0
+ReportedStep unit steps N r = Answer (λ a. LeastOf (Step unit (steps - 1) N) a.0) 5 (steps ≤ N) (said_of r)
 
-abbrev pub said_orientation : OrientationCoded → Said OrientationCode
-said_orientation (orientation.Code c) = done c
-said_orientation (orientation.Refused why) = refused (number_of why)
+abbrev pub CodedOffset : Millidegrees → Result OffsetCode Refusal → Type 0
+CodedOffset a r = OffsetCoding a (said_of r)
 
-abbrev pub said_bearing : BearingCoded → Said BearingCode
-said_bearing (bearing.Code c) = done c
-said_bearing (bearing.Refused why) = refused (number_of why)
+abbrev pub CodedIncluded : Millidegrees → Result IncludedCode Refusal → Type 0
+CodedIncluded a r = IncludedCoding a (said_of r)
 
-abbrev pub said_angle : AngleReported → Said Millidegrees
-said_angle (angle.Angle a) = done a
-said_angle (angle.Refused why) = refused (number_of why)
+abbrev pub CodedOrientation : Millidegrees → Result OrientationCode Refusal → Type 0
+CodedOrientation a r = OrientationCoding a (said_of r)
 
-abbrev pub CodedOffset : Millidegrees → OffsetCoded → Type 0
-CodedOffset a r = OffsetCoding a (said_offset r)
+abbrev pub CodedBearing : Millidegrees → Result BearingCode Refusal → Type 0
+CodedBearing a r = BearingCoding a (said_of r)
 
-abbrev pub CodedIncluded : Millidegrees → IncludedCoded → Type 0
-CodedIncluded a r = IncludedCoding a (said_included r)
+abbrev pub ReportedOffset : OffsetCode → Result Millidegrees Refusal → Type 0
+ReportedOffset c r = OffsetReporting c (said_of r)
 
-abbrev pub CodedOrientation : Millidegrees → OrientationCoded → Type 0
-CodedOrientation a r = OrientationCoding a (said_orientation r)
+abbrev pub ReportedIncluded : IncludedCode → Result Millidegrees Refusal → Type 0
+ReportedIncluded c r = IncludedReporting c (said_of r)
 
-abbrev pub CodedBearing : Millidegrees → BearingCoded → Type 0
-CodedBearing a r = BearingCoding a (said_bearing r)
+abbrev pub ReportedOrientation : OrientationCode → Result Millidegrees Refusal → Type 0
+ReportedOrientation c r = OrientationReporting c (said_of r)
 
-abbrev pub ReportedOffset : OffsetCode → AngleReported → Type 0
-ReportedOffset c r = OffsetReporting c (said_angle r)
-
-abbrev pub ReportedIncluded : IncludedCode → AngleReported → Type 0
-ReportedIncluded c r = IncludedReporting c (said_angle r)
-
-abbrev pub ReportedOrientation : OrientationCode → AngleReported → Type 0
-ReportedOrientation c r = OrientationReporting c (said_angle r)
-
-abbrev pub ReportedBearing : BearingCode → AngleReported → Type 0
-ReportedBearing c r = BearingReporting c (said_angle r)
+abbrev pub ReportedBearing : BearingCode → Result Millidegrees Refusal → Type 0
+ReportedBearing c r = BearingReporting c (said_of r)

@@ -1,121 +1,84 @@
 // Offset, included angle, orientation and bearing: codes that are steps of 1 or 2 degrees (document 01, "Quantities and codes").
 #![tactic(auto)]
 
-ghost use Rattle.angles.specs.Angles.{CodedOffset, ReportedOffset, CodedIncluded, ReportedIncluded, CodedOrientation, ReportedOrientation, CodedBearing, ReportedBearing};
+ghost use Rattle.std.specs.Prelude.{◌*◌, ◌<◌, ◌≤◌};
+ghost use Rattle.angles.specs.Angles.{CodedStep, ReportedStep, CodedOffset, ReportedOffset, CodedIncluded, ReportedIncluded, CodedOrientation, ReportedOrientation, CodedBearing, ReportedBearing};
 
 use ground::{BearingCode, IncludedCode, Millidegrees, OffsetCode, OrientationCode, Refusal};
 
-#[derive(Clone, Copy)]
-pub enum OffsetCoded {
-    Code(OffsetCode),
-    Refused(Refusal),
-}
-
-#[derive(Clone, Copy)]
-pub enum IncludedCoded {
-    Code(IncludedCode),
-    Refused(Refusal),
-}
-
-#[derive(Clone, Copy)]
-pub enum OrientationCoded {
-    Code(OrientationCode),
-    Refused(Refusal),
-}
-
-#[derive(Clone, Copy)]
-pub enum BearingCoded {
-    Code(BearingCode),
-    Refused(Refusal),
-}
-
-// What any of the four reports.
-#[derive(Clone, Copy)]
-pub enum AngleReported {
-    Angle(Millidegrees),
-    Refused(Refusal),
-}
-
-pub fn offset_code(angle: Millidegrees) -> OffsetCoded
+pub fn offset_code(angle: Millidegrees) -> Result<OffsetCode, Refusal>
     ensures { CodedOffset angle result }
 {
-    let offset = angle.0;
-    if 360000 <= offset {
-        return OffsetCoded::Refused(Refusal::OutOfRange);
-    }
-    OffsetCoded::Code(OffsetCode((offset / 2000) as u8))
+    Ok(OffsetCode(step_of::<2000, 180>(angle)? as u8))
 }
 
-pub fn reported_offset(code: OffsetCode) -> AngleReported
+pub fn reported_offset(code: OffsetCode) -> Result<Millidegrees, Refusal>
     ensures { ReportedOffset code result }
 {
-    let offset_steps = code.0;
-    if 180 <= offset_steps {
-        return AngleReported::Refused(Refusal::AngleCode);
-    }
-    AngleReported::Angle(Millidegrees(offset_steps as u32 * 2000))
+    start_of::<2000, 180>(u32::from(code.0))
 }
 
 // A step holds its upper end, and not its lower one: 360 degrees have a code, and 0 has none.
-pub fn included_code(angle: Millidegrees) -> IncludedCoded
+pub fn included_code(angle: Millidegrees) -> Result<IncludedCode, Refusal>
     ensures { CodedIncluded angle result }
 {
-    let included = angle.0;
-    if included == 0 {
-        return IncludedCoded::Refused(Refusal::OutOfRange);
+    match angle.0 {
+        n @ 1..=360000 => Ok(IncludedCode(((n - 1) / 2000) as u8)),
+        _ => Err(Refusal::OutOfRange),
     }
-    if 360000 < included {
-        return IncludedCoded::Refused(Refusal::OutOfRange);
-    }
-    IncludedCoded::Code(IncludedCode(((included - 1) / 2000) as u8))
 }
 
-pub fn reported_included(code: IncludedCode) -> AngleReported
+pub fn reported_included(code: IncludedCode) -> Result<Millidegrees, Refusal>
     ensures { ReportedIncluded code result }
 {
-    let included_steps = code.0;
-    if 180 <= included_steps {
-        return AngleReported::Refused(Refusal::AngleCode);
-    }
-    AngleReported::Angle(Millidegrees((included_steps as u32 + 1) * 2000))
+    let start = start_of::<2000, 180>(u32::from(code.0))?;
+    Ok(Millidegrees(start.0 + 2000))
 }
 
-pub fn orientation_code(angle: Millidegrees) -> OrientationCoded
+pub fn orientation_code(angle: Millidegrees) -> Result<OrientationCode, Refusal>
     ensures { CodedOrientation angle result }
 {
-    let orientation = angle.0;
-    if 180000 <= orientation {
-        return OrientationCoded::Refused(Refusal::OutOfRange);
-    }
-    OrientationCoded::Code(OrientationCode((orientation / 1000) as u8))
+    Ok(OrientationCode(step_of::<1000, 180>(angle)? as u8))
 }
 
-pub fn reported_orientation(code: OrientationCode) -> AngleReported
+pub fn reported_orientation(code: OrientationCode) -> Result<Millidegrees, Refusal>
     ensures { ReportedOrientation code result }
 {
-    let orientation_degrees = code.0;
-    if 180 <= orientation_degrees {
-        return AngleReported::Refused(Refusal::AngleCode);
-    }
-    AngleReported::Angle(Millidegrees(orientation_degrees as u32 * 1000))
+    start_of::<1000, 180>(u32::from(code.0))
 }
 
-pub fn bearing_code(angle: Millidegrees) -> BearingCoded
+pub fn bearing_code(angle: Millidegrees) -> Result<BearingCode, Refusal>
     ensures { CodedBearing angle result }
 {
-    let bearing = angle.0;
-    if 360000 <= bearing {
-        return BearingCoded::Refused(Refusal::OutOfRange);
-    }
-    BearingCoded::Code(BearingCode((bearing / 1000) as u16))
+    Ok(BearingCode(step_of::<1000, 360>(angle)? as u16))
 }
 
-pub fn reported_bearing(code: BearingCode) -> AngleReported
+pub fn reported_bearing(code: BearingCode) -> Result<Millidegrees, Refusal>
     ensures { ReportedBearing code result }
 {
-    let bearing_degrees = code.0;
-    if 360 <= bearing_degrees {
-        return AngleReported::Refused(Refusal::AngleCode);
+    start_of::<1000, 360>(u32::from(code.0))
+}
+
+// The step that holds the angle, of STEPS from 0 on.
+fn step_of<const UNIT: u32, const STEPS: u32>(angle: Millidegrees) -> Result<u32, Refusal>
+    requires { 0 < UNIT }
+    ensures { CodedStep UNIT STEPS angle.0 result }
+{
+    let step = angle.0 / UNIT;
+    if STEPS <= step {
+        return Err(Refusal::OutOfRange);
     }
-    AngleReported::Angle(Millidegrees(bearing_degrees as u32 * 1000))
+    Ok(step)
+}
+
+// The least angle of a step.
+fn start_of<const UNIT: u32, const STEPS: u32>(step: u32) -> Result<Millidegrees, Refusal>
+    requires unit { 0 < UNIT }
+    requires fits { UNIT * STEPS ≤ 360000 }
+    ensures { ReportedStep UNIT STEPS step result }
+{
+    if STEPS <= step {
+        return Err(Refusal::AngleCode);
+    }
+    Ok(Millidegrees(UNIT * step))
 }

@@ -1,4 +1,5 @@
 -- A record that is read has no points after its last.
+use Rattle.std.specs.Prelude.{Ok}
 use mathlib.Core.Path.{◌≡◌, refl, sym, ◌∙◌, subst}
 use mathlib.Core.Bool.{Bool, true, false}
 use mathlib.Core.List.{List}
@@ -7,7 +8,6 @@ use native.Mathlib.Omega.{arith}
 use lib.Dec.{ltb}
 use lib.ListN.{get_or, get_or-eq_default}
 use borrow.Author.Tests.{ltb-true, ltb-false}
-use Rattle.ground.specs.declared.refusals.Outcome.TheVariants.{Done}
 use Rattle.octets.specs.Bits.{bits}
 use Rattle.octets.specs.Codes.{sign_of, from_complement}
 use Rattle.layout.specs.declared.shape.Kind.{Kind}
@@ -84,5 +84,5 @@ module _ (s : List ℕ) where
     no_longitude = λ i h. longitude-at i h (ltb i 15) refl;
   }
 
-  pub ended : (x : Shape) → ReadsShape s (record { outcome = Done; shape = x }) → Ended x.latitudes x.longitudes x.count
+  pub ended : (x : Shape) → ReadsShape s (Ok x) → Ended x.latitudes x.longitudes x.count
   ended x p = subst (λ (y : Shape). Ended y.latitudes y.longitudes y.count) (sym p.shape) read-ended

@@ -1,4 +1,5 @@
 -- From what a reader hands back to what is put into the array.
+use Rattle.std.specs.Prelude.{Ok, Err}
 use Prim.Native.Nat.{ℕ, ◌+◌, ◌*◌, ◌-◌, ◌≤◌, ◌<◌}
 use mathlib.Core.Path.{◌≡◌, refl, sym, ◌∙◌, subst}
 use mathlib.Core.List.{List, ◌++◌}
@@ -7,13 +8,12 @@ use lib.ListN.{length, get_or, drop, replicate, get_or-append}
 use lib.Seq.{sets}
 use Rattle.ground.specs.declared.refusals.Refusal.{Refusal}
 use Rattle.ground.specs.declared.refusals.Refusal.TheVariants.{BufferTooShort}
-use Rattle.ground.specs.declared.refusals.Outcome.TheVariants.{Done, Refused}
 use Rattle.layout.specs.declared.shape.Kind.{Kind}
 use Rattle.layout.specs.declared.shape.Kind.TheVariants.{Nothing, Point, Circle, Ellipse, Polygon, AltitudePoint, AltitudeEllipsoid, Arc}
 use Rattle.layout.specs.declared.shape.Shape.{Shape}
 use Rattle.layout.specs.Layout.{count}
 use Rattle.layout.specs.Rows.{read}
-use Rattle.layout.specs.Shapes.{upto, blank_shape, ReadsShape}
+use Rattle.layout.specs.Shapes.{upto, ReadsShape}
 use Rattle.layout.proofs.ShapeRecords.{length-upto, at-upto}
 use Rattle.ground.specs.Answers.{met}
 use Rattle.ground.proofs.AnswerLaws.{when-done}
@@ -26,25 +26,24 @@ use Rattle.forming.proofs.ReadLaws.{Starts, of_length, done-read}
 use Rattle.code_arrays.proofs.PutLaws.{no_room, has_room}
 use Rattle.code_arrays.specs.Shapes.{single_elements, point_elements, Ended}
 use Rattle.code_arrays.proofs.PointLaws.{shape-put}
-use Rattle.layout.specs.declared.velocity.VelocityKind.TheVariants as motion
 use Rattle.layout.specs.declared.velocity.Velocity.{Velocity}
-use Rattle.layout.specs.Velocities.{blank_velocity, ReadsVelocity}
+use Rattle.layout.specs.Velocities.{ReadsVelocity}
 use Rattle.code_arrays.specs.Velocities.{velocity_elements}
 use Rattle.array_reading.specs.Reading.{ReadsInto, ReadsMotionInto}
 use Rattle.array_reading.proofs.EndLaws.{ended}
 
 module _ {s before : List ℕ} where
-  pub refused-into : (why : Refusal) → ReadsShape s (record { outcome = Refused why; shape = blank_shape Nothing }) → ReadsInto s before before (Refused why)
-  refused-into why p = record { read = record { outcome = Refused why; shape = blank_shape Nothing }; promise = p; roomed = refl; array = refl }
+  pub refused-into : (why : Refusal) → ReadsShape s (Err why) → ReadsInto s before before (Err why)
+  refused-into why p = record { read = Err why; promise = p; roomed = refl; array = refl }
 
-  module _ (x : Shape) (p : ReadsShape s (record { outcome = Done; shape = x })) where
-    pub short-into : length before < 61 → ReadsInto s before before (Refused BufferTooShort)
-    short-into h = record { read = record { outcome = Done; shape = x }; promise = p; roomed = no_room 61 (length before) h; array = refl }
+  module _ (x : Shape) (p : ReadsShape s (Ok x)) where
+    pub short-into : length before < 61 → ReadsInto s before before (Err BufferTooShort)
+    short-into h = record { read = Ok x; promise = p; roomed = no_room 61 (length before) h; array = refl }
 
     pub put-into : {after : List ℕ} (n : ℕ) → x.count ≡ n → 61 ≤ length before
-        → after ≡ sets (sets (sets before 0 (single_elements x)) 16 (point_elements x.latitudes x.longitudes n)) (16 + 3 * n) (replicate (45 - 3 * n) 0) → ReadsInto s before after Done
+        → after ≡ sets (sets (sets before 0 (single_elements x)) 16 (point_elements x.latitudes x.longitudes n)) (16 + 3 * n) (replicate (45 - 3 * n) 0) → ReadsInto s before after (Ok tt)
     put-into n c h e = record {
-      read = record { outcome = Done; shape = x };
+      read = Ok x;
       promise = p;
       roomed = has_room 61 (length before) h;
       array = e ∙ shape-put x (subst (λ (m : ℕ). Ended x.latitudes x.longitudes m) c (ended s x p)) before h;
@@ -75,23 +74,23 @@ module _ {s : List ℕ} {n : ℕ} (first : Starts s Polygon n) (a : MessageFormA
       m.0.most (omega arith)
 
   pub long_enough : 1 + 6 * n ≤ length s
-  long_enough = let l = of_length s Polygon n first Done a refl in omega (arith, l, polygon-length (bits s 4 4), first.count)
+  long_enough = let l = of_length s Polygon n first a in omega (arith, l, polygon-length (bits s 4 4), first.count)
 
-  pub polygon-read : ReadsShape s (record { outcome = Done; shape = polygon_of n s })
+  pub polygon-read : ReadsShape s (Ok (polygon_of n s))
   polygon-read =
-      done-read s Polygon n first Done a (polygon_of n s) refl
+      done-read s Polygon n first a (polygon_of n s)
       (subst (λ (m : ℕ). m ≤ 15 → polygon_of m s ≡ shape_of_kind Polygon s) (sym first.count) (polygon-record s) few-points)
-      Done (met (omega arith, omega arith, omega arith) (met (omega arith) refl)) refl
+      (met (omega arith, omega arith, omega arith) (met (omega arith) refl))
 
 -- ---- a velocity
 
 module _ {s before : List ℕ} where
-  pub motion-refused : (why : Refusal) → ReadsVelocity s (record { outcome = Refused why; velocity = blank_velocity motion.Nothing }) → ReadsMotionInto s before before (Refused why)
-  motion-refused why p = record { read = record { outcome = Refused why; velocity = blank_velocity motion.Nothing }; promise = p; roomed = refl; array = refl }
+  pub motion-refused : (why : Refusal) → ReadsVelocity s (Err why) → ReadsMotionInto s before before (Err why)
+  motion-refused why p = record { read = Err why; promise = p; roomed = refl; array = refl }
 
-  module _ (x : Velocity) (p : ReadsVelocity s (record { outcome = Done; velocity = x })) where
-    pub motion-short : length before < 7 → ReadsMotionInto s before before (Refused BufferTooShort)
-    motion-short h = record { read = record { outcome = Done; velocity = x }; promise = p; roomed = no_room 7 (length before) h; array = refl }
+  module _ (x : Velocity) (p : ReadsVelocity s (Ok x)) where
+    pub motion-short : length before < 7 → ReadsMotionInto s before before (Err BufferTooShort)
+    motion-short h = record { read = Ok x; promise = p; roomed = no_room 7 (length before) h; array = refl }
 
-    pub motion-put : {after : List ℕ} → 7 ≤ length before → after ≡ velocity_elements x ++ drop 7 before → ReadsMotionInto s before after Done
-    motion-put h e = record { read = record { outcome = Done; velocity = x }; promise = p; roomed = has_room 7 (length before) h; array = e }
+    pub motion-put : {after : List ℕ} → 7 ≤ length before → after ≡ velocity_elements x ++ drop 7 before → ReadsMotionInto s before after (Ok tt)
+    motion-put h e = record { read = Ok x; promise = p; roomed = has_room 7 (length before) h; array = e }

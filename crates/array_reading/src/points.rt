@@ -11,12 +11,9 @@ pub fn put_read_points(out: &mut [u32], s: &[u8], n: u8)
     requires n_in_bounds { 1 + 6 * n ≤ length s.now }
     ensures { out.new ≡ sets out.old 16 (point_elements (latitudes_of n s.now) (longitudes_of n s.now) n) }
 {
-    let end = n as usize;
-    let mut i = 0;
-    while i < end {
+    for i in 0..n as usize {
         let latitude = octets::latitude_at(s, 1 + 6 * i);
         let longitude = octets::longitude_at(s, 4 + 6 * i);
         code_arrays::put_point(out, i, latitude, longitude);
-        i += 1;
     }
 }

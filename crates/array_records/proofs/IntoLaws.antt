@@ -1,4 +1,5 @@
 -- From what a coder of elements hands back to what is put into the array.
+use Rattle.std.specs.Prelude.{Ok, Err}
 use Prim.Native.Nat.{ℕ, ◌+◌, ◌*◌, ◌-◌, ◌≤◌, ◌<◌}
 use mathlib.Core.Path.{◌≡◌, refl, ◌∙◌}
 use mathlib.Core.List.{List}
@@ -7,12 +8,9 @@ use lib.ListN.{length, replicate}
 use lib.Seq.{sets}
 use Rattle.ground.specs.Answers.{number_of, unmet, met}
 use Rattle.ground.specs.declared.refusals.Refusal.{Refusal}
-use Rattle.ground.specs.declared.refusals.Refusal.TheVariants.{OutOfRange, UncertaintyTooLarge, BufferTooShort}
-use Rattle.ground.specs.declared.refusals.Outcome.TheVariants.{Done, Refused}
+use Rattle.ground.specs.declared.refusals.Refusal.TheVariants.{OutOfRange, BufferTooShort}
 use Rattle.ground.proofs.AnswerLaws.{not-0}
-use Rattle.layout.specs.declared.shape.Kind.TheVariants.{Nothing}
 use Rattle.layout.specs.declared.shape.Shape.{Shape}
-use Rattle.layout.specs.Shapes.{blank_shape}
 use Rattle.quantities.specs.declared.shape.ShapeQuantities.{ShapeQuantities}
 use Rattle.quantities.specs.Promises.{CodeAnswer, QuantitiesInRange}
 use Rattle.quantities.specs.Shapes.{quantity_at, quantity_rows, CodesShape}
@@ -32,12 +30,12 @@ module _ (elements : List ℤ) where
   abbrev AnswerIn : ℕ → Type 0
   AnswerIn = CodeElementsAnswer (ShapeArrives elements) (quantity_rows q) q.count (quantity_at q)
 
-  refused-into : {before : List ℕ} (why : Refusal) → AnswerIn (number_of why) → CodesInto elements before before (Refused why)
-  refused-into why a = record { coded = record { outcome = Refused why; shape = blank_shape Nothing }; promise = record { answer = a; shape = refl }; roomed = refl; array = refl }
+  refused-into : {before : List ℕ} (why : Refusal) → AnswerIn (number_of why) → CodesInto elements before before (Err why)
+  refused-into why a = record { coded = Err why; promise = record { answer = a; shape = tt }; roomed = refl; array = refl }
 
   -- ---- 2 and 4, and 7 for what does not arrive
 
-  pub form-into : {before : List ℕ} (why : Refusal) → QuantitiesFormAnswer q.kind q.count (number_of why) → CodesInto elements before before (Refused why)
+  pub form-into : {before : List ℕ} (why : Refusal) → QuantitiesFormAnswer q.kind q.count (number_of why) → CodesInto elements before before (Err why)
   form-into why a = refused-into why (by a)
     where
       by : QuantitiesFormAnswer q.kind q.count (number_of why) → AnswerIn (number_of why)
@@ -46,7 +44,7 @@ module _ (elements : List ℤ) where
       by (met p (met s e)) = absurd (not-0 why e)
 
   module _ (formed : Formed q) where
-    pub misfit-into : {before : List ℕ} → (ShapeArrives elements → ⊥) → CodesInto elements before before (Refused OutOfRange)
+    pub misfit-into : {before : List ℕ} → (ShapeArrives elements → ⊥) → CodesInto elements before before (Err OutOfRange)
     misfit-into n = refused-into OutOfRange (met formed.listed (met formed.counted (unmet n refl)))
 
     -- ---- what arrives
@@ -56,16 +54,16 @@ module _ (elements : List ℤ) where
       arrived a = met formed.listed (met formed.counted (met arrives a))
 
       module _ {before : List ℕ} where
-        pub out-into : (QuantitiesInRange (quantity_rows q) q.count (quantity_at q) → ⊥) → CodesInto elements before before (Refused OutOfRange)
-        out-into n = refused-into OutOfRange (arrived (met formed.listed (met formed.counted (unmet n refl))))
+        pub out-into : (why : Refusal) → number_of why ≡ 7 → (QuantitiesInRange (quantity_rows q) q.count (quantity_at q) → ⊥) → CodesInto elements before before (Err why)
+        out-into why e n = refused-into why (arrived (met formed.listed (met formed.counted (unmet n e))))
 
-        pub large-into : QuantitiesInRange (quantity_rows q) q.count (quantity_at q) → (SizesCovered q → ⊥) → CodesInto elements before before (Refused UncertaintyTooLarge)
-        large-into r n = refused-into UncertaintyTooLarge (arrived (met formed.listed (met formed.counted (met r (unmet (λ c. n (sizes-covered q r c)) refl)))))
+        pub large-into : (why : Refusal) → number_of why ≡ 8 → QuantitiesInRange (quantity_rows q) q.count (quantity_at q) → (SizesCovered q → ⊥) → CodesInto elements before before (Err why)
+        large-into why e r n = refused-into why (arrived (met formed.listed (met formed.counted (met r (unmet (λ c. n (sizes-covered q r c)) e)))))
 
-        module _ (x : Shape) (p : CodesShape q (record { outcome = Done; shape = x })) where
-          pub short-into : length before < 61 → CodesInto elements before before (Refused BufferTooShort)
+        module _ (x : Shape) (p : CodesShape q (Ok x)) where
+          pub short-into : length before < 61 → CodesInto elements before before (Err BufferTooShort)
           short-into h = record {
-            coded = record { outcome = Done; shape = x };
+            coded = Ok x;
             promise = record { answer = arrived p.answer; shape = p.shape };
             roomed = no_room 61 (length before) h;
             array = refl;
@@ -73,9 +71,9 @@ module _ (elements : List ℤ) where
 
           -- the points are n, and what comes after the m-th is cleared
           pub put-into : {after : List ℕ} (n m : ℕ) → m ≡ n → Ended x.latitudes x.longitudes n → 61 ≤ length before
-              → after ≡ sets (sets (sets before 0 (single_elements x)) 16 (point_elements x.latitudes x.longitudes n)) (16 + 3 * m) (replicate (45 - 3 * m) 0) → CodesInto elements before after Done
+              → after ≡ sets (sets (sets before 0 (single_elements x)) 16 (point_elements x.latitudes x.longitudes n)) (16 + 3 * m) (replicate (45 - 3 * m) 0) → CodesInto elements before after (Ok tt)
           put-into n m s ended h e = record {
-            coded = record { outcome = Done; shape = x };
+            coded = Ok x;
             promise = record { answer = arrived p.answer; shape = p.shape };
             roomed = has_room 61 (length before) h;
             array = (rw s at e) ∙ shape-put x ended before h;

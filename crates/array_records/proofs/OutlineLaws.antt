@@ -13,7 +13,7 @@ use Rattle.layout.specs.Layout.{shape_rows}
 use Rattle.layout.specs.Demands.{CountSound}
 use Rattle.outline_codes.specs.declared.unused.Uses.{Uses}
 use Rattle.outline_codes.specs.Kinds.{uses_of}
-use Rattle.outline_codes.specs.Unused.{IdleNumber, RestZero}
+use Rattle.outline_codes.specs.Unused.{Idle, RestZero}
 use Rattle.outline_codes.specs.declared.ranges.Ranged.{Ranged}
 use Rattle.outline_codes.specs.declared.sizes.Sizes.{Sizes}
 use Rattle.outline_codes.specs.Outlines.{Outlined}
@@ -92,7 +92,7 @@ module _ (elements : List ℤ) where
   }
 
 -- a count that is formed, and zero where it isn't used, is one of fifteen points at most
-pub few-points : (k : Kind) (n : ℕ) → CountSound (shape_rows k n) (λ f. n) → IdleNumber (uses_of k).count n → n ≤ 15
+pub few-points : (k : Kind) (n : ℕ) → CountSound (shape_rows k n) (λ f. n) → Idle (uses_of k).count n 0 → n ≤ 15
 few-points Nothing n c h = let z = h refl in omega arith
 few-points Point n c h = let z = h refl in omega arith
 few-points Circle n c h = let z = h refl in omega arith

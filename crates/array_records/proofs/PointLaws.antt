@@ -1,10 +1,10 @@
 -- The points of elements: which coordinates they are, when all are kept, and one more that is put.
 use Prim.Native.Nat.{ℕ, zero, suc, ◌+◌, ◌*◌, ◌-◌, ◌≤◌, ◌<◌, ◌/◌, ◌%◌}
-use mathlib.Core.Path.{◌≡◌, refl, sym, ap, ◌∙◌}
+use mathlib.Core.Path.{◌≡◌, refl, sym, ap, ◌∙◌, subst}
 use mathlib.Core.Bool.{Bool, true, false}
 use mathlib.Core.List.{List}
 use native.Mathlib.Omega.{arith}
-use lib.Dec.{ltb, eqb}
+use lib.Dec.{T, ltb, eqb}
 use lib.IntN.{ℤ, pos}
 use lib.Signed.{mag}
 use lib.ListN.{length, get_or, set, replicate, length-set, get_or-eq_default}
@@ -25,14 +25,31 @@ use Rattle.quantities.specs.Shapes.{zero_degrees}
 use Rattle.quantities.proofs.TestLaws.{never}
 use Rattle.quantities.proofs.ZeroLaws.{not-refused}
 use Rattle.outline_codes.specs.declared.points.Points.{Points}
-use Rattle.outline_codes.specs.declared.points.PointCoded.{PointCoded}
-use Rattle.outline_codes.specs.Points.{PointCodes, CodesPoint, PointsKept, PointsCodes}
+use Rattle.outline_codes.specs.declared.points.PointCode.{PointCode}
+use Rattle.ground.specs.declared.refusals.Refusal.{Refusal}
+use Rattle.std.specs.Prelude.{Result, Ok, Err}
+use Rattle.std.specs.Result.{is_err, IsOk}
+use Rattle.outline_codes.specs.Points.{PointKept, PointCodes, CodesPoint, PointsKept, PointsCodes}
 use Rattle.code_arrays.specs.QuantityNumbers.{quantity_in}
 use Rattle.code_arrays.proofs.NumberLaws.{element-read}
 use Rattle.code_arrays.specs.Shapes.{point_element, point_elements}
 use Rattle.code_arrays.proofs.PointLaws.{more}
 use Rattle.quantity_arrays.specs.Shapes.{coordinate_in, quantities_in}
 use Rattle.array_records.specs.Records.{UsedKept, NoQuantitiesFrom, UsedCodes, PointsInRange, PutsPointCodes}
+
+-- what the answer of a point that is used says: an error that it is not kept, else its codes
+module _ {x y : Nanodegrees} where
+  pub refused-point : (r : Result PointCode Refusal) → is_err r ≡ true → CodesPoint true x y r → PointKept true x y → ⊥
+  refused-point (Ok p) e h = absurd (subst T (sym e) tt)
+  refused-point (Err why) e h = h.1
+
+  pub coded-point : (r : Result PointCode Refusal) → is_err r ≡ false → CodesPoint true x y r → (p : PointCode) × PointCodes true x y p.latitude p.longitude
+  coded-point (Ok p) e h = (p, h)
+  coded-point (Err why) e h = absurd (subst T e tt)
+
+  pub kept-point : (r : Result PointCode Refusal) → PointKept true x y → CodesPoint true x y r → IsOk r
+  kept-point (Ok p) k h = refl
+  kept-point (Err why) k h = absurd (h.1 k)
 
 module _ (elements : List ℤ) where
   latitude-at : (i : ℕ) → i < 15 → get_or (quantities_in elements).latitudes i zero_degrees ≡ coordinate_in elements 14 i
@@ -43,7 +60,7 @@ module _ (elements : List ℤ) where
 
   -- the codes of the two elements that were read
   pub coded-at : (i : ℕ) → i < 15 → mag (quantity_in elements (14 + 2 * i)) < 9223372036854775808 → mag (quantity_in elements (15 + 2 * i)) < 9223372036854775808
-      → (r : PointCoded) → CodesPoint true (record { 0 = to_z w64 (of_z w64 (quantity_in elements (14 + 2 * i))) }) (record { 0 = to_z w64 (of_z w64 (quantity_in elements (15 + 2 * i))) }) r
+      → (r : Result PointCode Refusal) → CodesPoint true (record { 0 = to_z w64 (of_z w64 (quantity_in elements (14 + 2 * i))) }) (record { 0 = to_z w64 (of_z w64 (quantity_in elements (15 + 2 * i))) }) r
       → CodesPoint true (get_or (quantities_in elements).latitudes i zero_degrees) (get_or (quantities_in elements).longitudes i zero_degrees) r
   coded-at i h a b r p = rw (latitude-at i h, longitude-at i h) (rw (element-read {z = quantity_in elements (14 + 2 * i)} a, element-read {z = quantity_in elements (15 + 2 * i)} b) at p)
 
@@ -167,7 +184,7 @@ module _ (elements : List ℤ) where
 
 module _ {elements : List ℤ} {n : ℕ} (u : UsedCodes elements n) where
   abbrev pub points_of : Points
-  points_of = record { in_range = true; latitudes = u.latitudes; longitudes = u.longitudes }
+  points_of = record { latitudes = u.latitudes; longitudes = u.longitudes }
 
   pub points-codes : PointsKept (quantities_in elements).latitudes (quantities_in elements).longitudes n → PointsCodes (quantities_in elements).latitudes (quantities_in elements).longitudes n points_of
   points-codes kept = record {

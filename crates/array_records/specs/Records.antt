@@ -1,19 +1,19 @@
 -- CODING the quantities that elements say: 2, 4, then 7 also for a quantity that does not arrive in its width, 8.
-use Rattle.std.specs.Prelude.{◌≡◌, Bool, true, false, List, ◌++◌, ℕ, ◌≤◌, ◌<◌, ℤ, pos, length, get_or, drop}
+use Rattle.std.specs.Prelude.{◌≡◌, Bool, true, false, List, ◌++◌, ℕ, ◌≤◌, ◌<◌, ℤ, pos, length, get_or, drop, Result, IfOk}
 use Rattle.std.proofs.lemmas.List.Edits.{sets}
-use Rattle.ground.specs.Answers.{outcome_number, handed, done, Unless}
+use Rattle.ground.specs.Answers.{outcome_number, handed, done, Unless, outcome_of, value_or}
 use Rattle.ground.specs.declared.code.LatitudeCode.{LatitudeCode}
 use Rattle.ground.specs.declared.code.LongitudeCode.{LongitudeCode}
-use Rattle.ground.specs.declared.refusals.Outcome.{Outcome}
+use Rattle.ground.specs.declared.refusals.Refusal.{Refusal}
+use Rattle.layout.specs.declared.shape.Shape.{Shape}
 use Rattle.fields.specs.Fields.{Coding}
 use Rattle.fields.specs.Fields as field
 use Rattle.layout.specs.declared.shape.Kind.TheVariants as shape
 use Rattle.layout.specs.Layout.{Row}
 use Rattle.layout.specs.Demands.{TypeKnown, CountSound}
 use Rattle.layout.specs.Shapes.{blank_shape, zero_latitude, zero_longitude}
-use Rattle.quantities.specs.declared.shape.ShapeCoded.{ShapeCoded}
 use Rattle.quantities.specs.Places.{PlaceQuantities}
-use Rattle.quantities.specs.Promises.{CodeAnswer, Given}
+use Rattle.quantities.specs.Promises.{CodeAnswer}
 use Rattle.quantities.specs.Shapes.{quantity_at, quantity_rows, RecordOf, zero_degrees}
 use Rattle.outline_codes.specs.Points.{PointKept, PointsKept}
 use Rattle.code_arrays.specs.Answers.{given_room}
@@ -25,16 +25,16 @@ abbrev pub CodeElementsAnswer : Type 0 → List Row → ℕ → PlaceQuantities 
 CodeElementsAnswer arrives rows count quantity =
     Unless (TypeKnown rows) 2 (Unless (CountSound rows (λ f. count)) 4 (Unless arrives 7 (CodeAnswer rows count quantity)))
 
-pub record CodesShapeIn (elements : List ℤ) (r : ShapeCoded) : Type 0 where
-  pub answer : CodeElementsAnswer (ShapeArrives elements) (quantity_rows (quantities_in elements)) (quantities_in elements).count (quantity_at (quantities_in elements)) (outcome_number r.outcome)
-  pub shape : Given r.outcome (RecordOf (quantities_in elements) r.shape) (r.shape ≡ blank_shape shape.Nothing)
+pub record CodesShapeIn (elements : List ℤ) (r : Result Shape Refusal) : Type 0 where
+  pub answer : CodeElementsAnswer (ShapeArrives elements) (quantity_rows (quantities_in elements)) (quantities_in elements).count (quantity_at (quantities_in elements)) (outcome_number r)
+  pub shape : IfOk r (RecordOf (quantities_in elements))
 
 -- what a coder that keeps its promise hands back is put into the array; `left` is its outcome, the room looked at
-pub record CodesInto (elements : List ℤ) (before after : List ℕ) (left : Outcome) : Type 0 where
-  pub coded : ShapeCoded
+pub record CodesInto (elements : List ℤ) (before after : List ℕ) (left : Result Unit Refusal) : Type 0 where
+  pub coded : Result Shape Refusal
   pub promise : CodesShapeIn elements coded
-  pub roomed : left ≡ given_room coded.outcome 61 (length before)
-  pub array : after ≡ handed left (shape_elements coded.shape ++ drop 61 before) before
+  pub roomed : left ≡ given_room (outcome_of coded) 61 (length before)
+  pub array : after ≡ handed left (shape_elements (value_or (blank_shape shape.Nothing) coded) ++ drop 61 before) before
 
 -- ---- the points
 

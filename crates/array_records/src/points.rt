@@ -4,7 +4,6 @@ ghost use Rattle.ground.specs.Answers.{Decides};
 ghost use Rattle.array_records.specs.Records.{UsedKept, NoQuantitiesFrom, UsedInRange, PointsInRange, PutsPointCodes};
 
 use ground::Nanodegrees;
-use outline_codes::PointCoded;
 
 // Whether the first n points are in range, and the others zero.
 pub fn in_range(given: &[i64], n: u8) -> bool
@@ -24,14 +23,12 @@ fn used_in_range(given: &[i64], end: usize) -> bool
     requires end_bound { end ≤ 15 }
     ensures { UsedInRange given.now end result }
 {
-    let mut i = 0;
-    while i < end {
+    for i in 0..end {
         let latitude = Nanodegrees(given[14 + 2 * i]);
         let longitude = Nanodegrees(given[15 + 2 * i]);
-        if let PointCoded::OutOfRange = outline_codes::code_point(true, latitude, longitude) {
+        if outline_codes::code_point(true, latitude, longitude).is_err() {
             return false;
         }
-        i += 1;
     }
     true
 }
@@ -43,12 +40,10 @@ fn none_from(given: &[i64], first: usize) -> bool
     ensures { Decides result (NoQuantitiesFrom given.now first) }
 {
     let mut all = true;
-    let mut at = first;
-    while at < 44 {
-        if given[at] != 0 {
+    for element in &given[first..44] {
+        if *element != 0 {
             all = false;
         }
-        at += 1;
     }
     all
 }
@@ -61,16 +56,10 @@ pub fn put_coded_points(out: &mut [u32], given: &[i64], n: u8)
     requires used_kept { UsedKept given.now n }
     ensures { PutsPointCodes given.now n out.old out.new }
 {
-    let end = n as usize;
-    let mut i = 0;
-    while i < end {
+    for i in 0..n as usize {
         let latitude = Nanodegrees(given[14 + 2 * i]);
         let longitude = Nanodegrees(given[15 + 2 * i]);
-        if let PointCoded::Codes(north, east) = outline_codes::code_point(
-            true, latitude, longitude,
-        ) {
-            code_arrays::put_point(out, i, north, east);
-        }
-        i += 1;
+        let code = outline_codes::code_point(true, latitude, longitude).unwrap();
+        code_arrays::put_point(out, i, code.latitude, code.longitude);
     }
 }

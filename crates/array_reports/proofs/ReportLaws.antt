@@ -1,5 +1,6 @@
 -- Reports into an array: of a record that is refused, of one that is taken and has no room, and of one whose quantities are put.
 --
+use Rattle.std.specs.Prelude.{Ok, Err}
 use Prim.Native.Nat.{ℕ, suc, ◌+◌, ◌-◌, ◌*◌, ◌≤◌, ◌<◌}
 use mathlib.Core.Path.{◌≡◌, refl, sym, ap, ◌∙◌, subst}
 use mathlib.Core.List.{List}
@@ -9,7 +10,6 @@ use lib.ListN.{length, replicate}
 use lib.Seq.{sets}
 use borrow.Author.Tests.{lt-ltb, le-ltb}
 use Rattle.ground.specs.Answers.{number_of}
-use Rattle.ground.specs.declared.refusals.Outcome.TheVariants.{Done, Refused}
 use Rattle.ground.specs.declared.refusals.Refusal.{Refusal}
 use Rattle.ground.specs.declared.refusals.Refusal.TheVariants.{BufferTooShort}
 use Rattle.layout.specs.declared.shape.Shape.{Shape}
@@ -18,7 +18,7 @@ use Rattle.layout.specs.Rows.{length_of}
 use Rattle.layout.specs.Demands.{WriteAnswer}
 use Rattle.layout.specs.Shapes.{value_of}
 use Rattle.quantities.specs.declared.shape.ShapeQuantities.{ShapeQuantities}
-use Rattle.quantities.specs.Shapes.{TakesShape, no_shape}
+use Rattle.quantities.specs.Shapes.{TakesShape}
 use Rattle.quantities.proofs.HeldLaws.{count_held}
 use Rattle.field_reports.specs.Outlines.{OutlineHeld, OutlineReported}
 use Rattle.field_reports.proofs.OutlineLaws.{with_points, pointless, outline-of, pointless-held, all-reported}
@@ -56,10 +56,10 @@ with_count x n = record {
 }
 
 module _ (elements : List ℕ) where
-  pub report-refused : {before : List ℤ} (why : Refusal) → RecordAnswer (array_rows elements) (value_in elements) (number_of why) → ReportsInto elements before before (Refused why)
+  pub report-refused : {before : List ℤ} (why : Refusal) → RecordAnswer (array_rows elements) (value_in elements) (number_of why) → ReportsInto elements before before (Err why)
   report-refused why h = record {
-    reported = record { outcome = Refused why; quantities = no_shape };
-    promise = record { answer = roomy (number_of why) h; quantities = refl };
+    reported = Err why;
+    promise = record { answer = roomy (number_of why) h; quantities = tt };
     roomed = refl;
     array = refl;
   }
@@ -82,9 +82,9 @@ module _ (elements : List ℕ) where
       turn = number elements (taken h).fields (longitude (suc i));
     }
 
-    pub report-too-short : {before : List ℤ} → length before < 44 → ReportsInto elements before before (Refused BufferTooShort)
+    pub report-too-short : {before : List ℤ} → length before < 44 → ReportsInto elements before before (Err BufferTooShort)
     report-too-short {before} l = record {
-      reported = record { outcome = Done; quantities = (some (record_in elements) takes).quantities };
+      reported = Ok (some (record_in elements) takes).quantities;
       promise = record { answer = roomy 0 h; quantities = (some (record_in elements) takes).promise };
       roomed = simp (lt-ltb (length before) 44 l);
       array = refl;
@@ -103,12 +103,12 @@ module _ (elements : List ℕ) where
       module _ (q : ShapeQuantities) (o : OutlineReported (with_count x (element_at elements 1)) q) (before : List ℤ) (room : 44 ≤ length before) {put after : List ℤ}
           (p : PutsPointQuantities elements (element_at elements 1) (sets before 0 (single_quantity_elements q)) put)
           (cleared : after ≡ sets put (14 + 2 * element_at elements 1) (replicate (30 - 2 * element_at elements 1) (pos 0))) where
-        pub report-put : ReportsInto elements before after Done
+        pub report-put : ReportsInto elements before after (Ok tt)
         report-put =
             let n : element_at elements 1 ≡ value_in elements count = same-element elements 1 (omega arith) in
             let all = with_points q p.latitudes p.longitudes in
             record {
-              reported = record { outcome = Done; quantities = all };
+              reported = Ok all;
               promise = record { answer = roomy 0 h; quantities = all-reported (record_in elements) takes q (outline q o) (rw n at p.told_latitudes) (rw n at p.told_longitudes) };
               roomed = simp (le-ltb (length before) 44 room);
               array =

@@ -13,9 +13,7 @@ pub fn put_reported_points(out: &mut [i64], codes: &[u32], n: u8)
     requires used_within { UsedWithin codes.now n }
     ensures { PutsPointQuantities codes.now n out.old out.new }
 {
-    let end = n as usize;
-    let mut i = 0;
-    while i < end {
+    for i in 0..n as usize {
         let at = 16 + 3 * i;
         let latitude = field_reports::latitude(LatitudeCode(codes[at] == 1, codes[at + 1]));
         let longitude = field_reports::longitude(code_arrays::longitude_of(codes[at + 2]));
@@ -23,6 +21,5 @@ pub fn put_reported_points(out: &mut [i64], codes: &[u32], n: u8)
         let east = longitude.0;
         out[14 + 2 * i] = north;
         out[15 + 2 * i] = east;
-        i += 1;
     }
 }

@@ -13,7 +13,7 @@ use Rattle.layout.specs.Layout.{Row, shape_rows, type_of}
 use Rattle.layout.specs.Rows.{length_of}
 use Rattle.layout.specs.Shapes.{rows_of, value_of}
 use Rattle.composing.specs.Composing.{rest, ShapeStorable}
-use Rattle.composing.proofs.StoreLaws.{run-stored, fixed-message, start-room}
+use Rattle.composing.proofs.StoreLaws.{run-stored, fixed-message}
 use Rattle.requests.specs.declared.codes.Wanted.{Wanted}
 use Rattle.requests.specs.Choice.{TakesPart}
 use Rattle.requests.specs.Codes.{Tame, message_of, wanted_record}
@@ -27,10 +27,6 @@ module _ (k : Kind) (w : Wanted) (p : TakesPart k) (t : Tame w) where
   storable room h =
       let s = record-sound k w p t in
       record { listed = s.listed; counted = s.counted; fields = s.fields; fits = subst (λ (rows : List Row). length_of rows ≤ room) (sym (record-rows k w p t)) h }
-
-  -- there is room for the first octet and a position
-  pub position-room : (room : ℕ) → length_of (shape_rows k 0) ≤ room → 7 ≤ room
-  position-room room h = start-room (wanted_record k w) room (storable room h) no-polygon
 
   -- the first octet, the position and the rest, from the first octet on, are the message
   pub parts-stored : (o : List ℕ) → length_of (shape_rows k 0) ≤ length o

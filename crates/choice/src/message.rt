@@ -7,8 +7,15 @@ ghost use Rattle.requests.specs.Choice.{TakesPart};
 ghost use Rattle.requests.specs.Codes.{Tame, message_of, wanted_record};
 ghost use Rattle.composing.specs.Composing.{rest};
 
+use ground::{AltitudeCode, AltitudeUncertaintyCode, OrientationCode, UncertaintyCode};
 use layout::Kind;
-use requests::Wanted;
+use requests::{AreaWanted, Wanted};
+
+const NO_AREA: AreaWanted = AreaWanted {
+    semi_major: UncertaintyCode(0),
+    semi_minor: UncertaintyCode(0),
+    orientation: OrientationCode(0),
+};
 
 // Stores the message.
 pub fn store_choice(out: &mut [u8], kind: Kind, wanted: Wanted)
@@ -31,24 +38,25 @@ fn put_rest(out: &mut [u8], kind: Kind, wanted: Wanted)
     requires kind_in_bounds { length_of (shape_rows kind 0) ≤ length out.old }
     ensures { out.new ≡ sets out.old 7 (rest kind (wanted_record kind wanted)) }
 {
-    let altitude = wanted.altitude.code;
-    let major = wanted.area.semi_major.0;
-    let minor = wanted.area.semi_minor.0;
-    let orientation = wanted.area.orientation.0;
-    let altitude_uncertainty = wanted.altitude_uncertainty.code.0;
+    let altitude = wanted.altitude.unwrap_or(AltitudeCode(false, 0));
+    let area = wanted.area.unwrap_or(NO_AREA);
+    let altitude_uncertainty = wanted
+        .altitude_uncertainty
+        .unwrap_or(AltitudeUncertaintyCode(0));
+    let major = area.semi_major.0;
+    let minor = area.semi_minor.0;
+    let orientation = area.orientation.0;
+    let height = altitude_uncertainty.0;
     let confidence = wanted.confidence.0;
     match kind {
-        Kind::Nothing => {}
-        Kind::Point => {}
+        Kind::Nothing | Kind::Point | Kind::Polygon | Kind::Arc => {}
         Kind::Circle => out[7] = major,
         Kind::Ellipse => octets::put_four(out, 7, major, minor, orientation, confidence),
-        Kind::Polygon => {}
         Kind::AltitudePoint => octets::put_altitude(out, 7, altitude),
         Kind::AltitudeEllipsoid => {
             octets::put_altitude(out, 7, altitude);
-            octets::put_four(out, 9, major, minor, orientation, altitude_uncertainty);
+            octets::put_four(out, 9, major, minor, orientation, height);
             out[13] = confidence;
         }
-        Kind::Arc => {}
     }
 }

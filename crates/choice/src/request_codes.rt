@@ -1,70 +1,26 @@
 // A request to its codes: what is out of range is refused before what is too uncertain.
-ghost use Rattle.requests.specs.declared.Horizontal.TheVariants.{Circle};
 ghost use Rattle.requests.specs.Codes.{AltitudeCodes};
 ghost use Rattle.choice.specs.RequestCodes.{CodesRequest, CodesOrientation, CodesArea, CodesHeight, OrientationOf};
 
-use angles::OrientationCoded;
-use confidences::ConfidenceCoded;
-use coordinates::{LatitudeCoded, LongitudeCoded};
 use ground::{
-    AltitudeCode, AltitudeUncertaintyCode, Millimetres, OrientationCode, Refusal, UncertaintyCode,
+    AltitudeCode, AltitudeUncertaintyCode, Millimetres, OrientationCode, Refusal, SignedMillimetres,
 };
-use radii::{AltitudeUncertaintyCoded, UncertaintyCoded};
-use requests::{
-    Altitude, AltitudeUncertainty, AltitudeUncertaintyWanted, AltitudeWanted, AreaWanted,
-    Horizontal, Request, Wanted,
-};
-
-#[derive(Clone, Copy)]
-pub enum RequestCoded {
-    Codes(Wanted),
-    Refused(Refusal),
-}
-
-#[derive(Clone, Copy)]
-enum AreaCoded {
-    Codes(AreaWanted),
-    TooLarge,
-}
-
-#[derive(Clone, Copy)]
-enum HeightCoded {
-    Codes(AltitudeUncertaintyWanted),
-    TooLarge,
-}
+use requests::{AreaWanted, Horizontal, Request, Wanted};
 
 // The codes of a request, each found once.
-pub fn request_codes(request: Request) -> RequestCoded
+pub fn request_codes(request: Request) -> Result<Wanted, Refusal>
     ensures { CodesRequest request result }
 {
-    let north = request.latitude;
-    let east = request.longitude;
-    let altitude = request.altitude;
-    let horizontal = request.horizontal;
-    let height = request.altitude_uncertainty;
-    let per_cent = request.confidence;
-    let LatitudeCoded::Code(latitude) = coordinates::latitude_code(north) else {
-        return RequestCoded::Refused(Refusal::OutOfRange);
-    };
-    let LongitudeCoded::Code(longitude) = coordinates::longitude_code(east) else {
-        return RequestCoded::Refused(Refusal::OutOfRange);
-    };
-    let ConfidenceCoded::Code(confidence) = confidences::confidence_code(per_cent) else {
-        return RequestCoded::Refused(Refusal::OutOfRange);
-    };
-    let OrientationCoded::Code(orientation) = orientation_code(horizontal) else {
-        return RequestCoded::Refused(Refusal::OutOfRange);
-    };
-    let AreaCoded::Codes(area) = area_codes(horizontal, orientation) else {
-        return RequestCoded::Refused(Refusal::UncertaintyTooLarge);
-    };
-    let HeightCoded::Codes(altitude_uncertainty) = height_codes(height) else {
-        return RequestCoded::Refused(Refusal::UncertaintyTooLarge);
-    };
-    RequestCoded::Codes(Wanted {
+    let latitude = coordinates::latitude_code(request.latitude)?;
+    let longitude = coordinates::longitude_code(request.longitude)?;
+    let confidence = confidences::confidence_code(request.confidence)?;
+    let orientation = orientation_code(request.horizontal)?;
+    let area = area_codes(request.horizontal, orientation)?;
+    let altitude_uncertainty = height_code(request.altitude_uncertainty)?;
+    Ok(Wanted {
         latitude,
         longitude,
-        altitude: altitude_codes(altitude),
+        altitude: altitude_code(request.altitude),
         area,
         altitude_uncertainty,
         confidence,
@@ -72,104 +28,62 @@ pub fn request_codes(request: Request) -> RequestCoded
 }
 
 // The orientation of an ellipse whose axes are in order; 0 where none is asked.
-fn orientation_code(horizontal: Horizontal) -> OrientationCoded
+fn orientation_code(horizontal: Horizontal) -> Result<OrientationCode, Refusal>
     ensures { CodesOrientation horizontal result }
 {
     match horizontal {
-        Horizontal::Circle(_) => OrientationCoded::Code(OrientationCode(0)),
+        Horizontal::Circle(_) | Horizontal::NotAsked => Ok(OrientationCode(0)),
         Horizontal::Ellipse {
             semi_major,
             semi_minor,
             orientation,
         } => {
             if semi_major.0 < semi_minor.0 {
-                return OrientationCoded::Refused(Refusal::OutOfRange);
+                return Err(Refusal::OutOfRange);
             }
             angles::orientation_code(orientation)
         }
-        Horizontal::NotAsked => OrientationCoded::Code(OrientationCode(0)),
     }
 }
 
-// The axes' codes beside the orientation's.
-fn area_codes(horizontal: Horizontal, orientation: OrientationCode) -> AreaCoded
+// The axes' codes beside the orientation's. A circle's one code is that of both axes.
+fn area_codes(
+    horizontal: Horizontal,
+    orientation: OrientationCode,
+) -> Result<Option<AreaWanted>, Refusal>
     requires { OrientationOf horizontal orientation }
     ensures { CodesArea horizontal result }
 {
     match horizontal {
-        Horizontal::Circle(radius) => circle_codes(radius, orientation),
+        Horizontal::Circle(radius) => {
+            let code = radii::uncertainty_code(radius)?;
+            Ok(Some(AreaWanted {
+                semi_major: code,
+                semi_minor: code,
+                orientation,
+            }))
+        }
         Horizontal::Ellipse {
             semi_major,
             semi_minor,
             orientation: _,
-        } => {
-            let UncertaintyCoded::Code(major) = radii::uncertainty_code(semi_major) else {
-                return AreaCoded::TooLarge;
-            };
-            let UncertaintyCoded::Code(minor) = radii::uncertainty_code(semi_minor) else {
-                return AreaCoded::TooLarge;
-            };
-            AreaCoded::Codes(AreaWanted {
-                asked: true,
-                semi_major: major,
-                semi_minor: minor,
-                orientation,
-            })
-        }
-        Horizontal::NotAsked => AreaCoded::Codes(AreaWanted {
-            asked: false,
-            semi_major: UncertaintyCode(0),
-            semi_minor: UncertaintyCode(0),
+        } => Ok(Some(AreaWanted {
+            semi_major: radii::uncertainty_code(semi_major)?,
+            semi_minor: radii::uncertainty_code(semi_minor)?,
             orientation,
-        }),
+        })),
+        Horizontal::NotAsked => Ok(None),
     }
 }
 
-// A circle's one code is that of both axes.
-fn circle_codes(radius: Millimetres, orientation: OrientationCode) -> AreaCoded
-    requires { OrientationOf (Circle radius) orientation }
-    ensures { CodesArea (Circle radius) result }
-{
-    let UncertaintyCoded::Code(code) = radii::uncertainty_code(radius) else {
-        return AreaCoded::TooLarge;
-    };
-    AreaCoded::Codes(AreaWanted {
-        asked: true,
-        semi_major: code,
-        semi_minor: code,
-        orientation,
-    })
-}
-
-fn height_codes(height: AltitudeUncertainty) -> HeightCoded
+fn height_code(height: Option<Millimetres>) -> Result<Option<AltitudeUncertaintyCode>, Refusal>
     ensures { CodesHeight height result }
 {
-    match height {
-        AltitudeUncertainty::Asked(uncertainty) => {
-            let AltitudeUncertaintyCoded::Code(code) = radii::altitude_uncertainty_code(uncertainty)
-            else {
-                return HeightCoded::TooLarge;
-            };
-            HeightCoded::Codes(AltitudeUncertaintyWanted { asked: true, code })
-        }
-        AltitudeUncertainty::NotAsked => HeightCoded::Codes(AltitudeUncertaintyWanted {
-            asked: false,
-            code: AltitudeUncertaintyCode(0),
-        }),
-    }
+    height.map(radii::altitude_uncertainty_code).transpose()
 }
 
-fn altitude_codes(altitude: Altitude) -> AltitudeWanted
+fn altitude_code(altitude: Option<SignedMillimetres>) -> Option<AltitudeCode>
     ensures { AltitudeCodes altitude result }
 {
-    match altitude {
-        Altitude::Asked(height) => AltitudeWanted {
-            asked: true,
-            code: lengths::altitude_code(height),
-        },
-        Altitude::NotAsked => AltitudeWanted {
-            asked: false,
-            code: AltitudeCode(false, 0),
-        },
-    }
+    altitude.map(lengths::altitude_code)
 }

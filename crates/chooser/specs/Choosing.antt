@@ -1,19 +1,17 @@
 -- THE CHOOSER: the receiver's list in the first line of its input, and the text of the answer to each further line.
-use Rattle.std.specs.Prelude.{◌≡◌, List, [], ◌∷◌, ℕ, ◌≤◌, ◌<◌, length, take, replicate}
-use Rattle.layout.specs.declared.Written.{Written}
+use Rattle.std.specs.Prelude.{◌≡◌, List, [], ◌∷◌, ℕ, ◌≤◌, ◌<◌, length, take, replicate, Some, None, Result, Ok, Err}
 use Rattle.requests.specs.declared.Request.{Request}
 use Rattle.requests.specs.Choice.{Chooses, Listed}
 use Rattle.request_lines.specs.Asking.{Asks, ListIn}
 use Rattle.request_lines.specs.Answers.{choice_text}
-use Rattle.request_lines.specs.declared.request.Asked.{Asked}
-use Rattle.request_lines.specs.declared.request.Asked.TheVariants as asked
-use Rattle.request_lines.specs.declared.answers.Answer.TheVariants.{Unreadable, Chosen}
+use Rattle.request_lines.specs.declared.Unreadable.{Unreadable}
 use Rattle.text.specs.Text.{PutsWithin}
 use Rattle.streaming.specs.Answering.{Taken, Stopped, Ran}
 use Rattle.streaming.specs.Inputs.{longest_line}
 use Rattle.streaming.specs.Outputs.{PutOut}
 use Rattle.streaming.specs.declared.output.Output.{Output}
 use Rattle.streaming.specs.declared.output.Run.{Run}
+use Rattle.ground.specs.declared.refusals.Refusal.{Refusal}
 
 -- the receiver's list in a line; one that is too long to be kept is the empty list
 pub record LineLists (line : List ℕ) (list : ℕ) : Type 0 where
@@ -21,18 +19,23 @@ pub record LineLists (line : List ℕ) (list : ℕ) : Type 0 where
   pub too_long : longest_line < length line → list ≡ 0
 
 -- what a line asks; one that is too long to be kept is unreadable
-pub record LineAsks (line : List ℕ) (r : Asked) : Type 0 where
+pub record LineAsks (line : List ℕ) (r : Result Request Unreadable) : Type 0 where
   pub asks : length line ≤ longest_line → Asks line r
-  pub too_long : longest_line < length line → r ≡ asked.Unreadable
+  pub too_long : longest_line < length line → r ≡ Err (record {})
+
+-- the message that the choice left in the buffer, or its refusal
+abbrev pub message_in : List ℕ → Result ℕ Refusal → Result (List ℕ) Refusal
+message_in after (Ok length) = Ok (take length after)
+message_in after (Err why) = Err why
 
 -- the n-th answer, as text: what the choice answers for the request, into 14 octets
-pub data AnswerTo (list n : ℕ) : Asked → List ℕ → Type 0 where
-  unreadable : AnswerTo list n asked.Unreadable (choice_text n Unreadable [])
-  chosen : {q : Request} {after : List ℕ} (w : Written) → Chooses q (Listed list) (replicate 14 0) after w
-      → AnswerTo list n (asked.Request q) (choice_text n (Chosen w.outcome) (take w.length after))
+pub data AnswerTo (list n : ℕ) : Result Request Unreadable → List ℕ → Type 0 where
+  unreadable : {u : Unreadable} → AnswerTo list n (Err u) (choice_text n None)
+  chosen : {q : Request} {after : List ℕ} (w : Result ℕ Refusal) → Chooses q (Listed list) (replicate 14 0) after w
+      → AnswerTo list n (Ok q) (choice_text n (Some (message_in after w)))
 
 pub record ChooserAnswer (list n : ℕ) (line text : List ℕ) : Type 0 where
-  pub asked : Asked
+  pub asked : Result Request Unreadable
   pub asks : LineAsks line asked
   pub is : AnswerTo list n asked text
 
@@ -51,7 +54,7 @@ pub record ChoosesAll (start block out : List ℕ) (r : Run) : Type 0 where
 -- ---- the parts
 
 -- the answer is put at its place, where there is room for it
-pub record PutsChosen (list n : ℕ) (asked : Asked) (before : List ℕ) (at : ℕ) (after : List ℕ) (next : ℕ) : Type 0 where
+pub record PutsChosen (list n : ℕ) (asked : Result Request Unreadable) (before : List ℕ) (at : ℕ) (after : List ℕ) (next : ℕ) : Type 0 where
   pub text : List ℕ
   pub is : AnswerTo list n asked text
   pub puts : PutsWithin 65 before at text after next

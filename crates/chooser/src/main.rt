@@ -9,7 +9,8 @@ ghost use Rattle.streaming.specs.Outputs.{SoundOutput};
 ghost use Rattle.streaming.specs.Answering.{AnswerPut};
 ghost use Rattle.chooser.specs.Choosing.{LineLists, LineAsks, ChooserAnswer, ChoosesAll, AnswersRest, StoppedChoosing, PutsChosen};
 
-use request_lines::{Answer, Asked, ListRead};
+use request_lines::{Answer, Unreadable};
+use requests::Request;
 use streaming::{Input, Output, Run};
 
 // No answer takes more octets.
@@ -61,7 +62,7 @@ fn answer_lines(
     ensures { AnswersRest list first block.old block.new out.old out.new result }
 {
     let mut run = first;
-    while run.output.answered < MOST_LINES {
+    for _ in first.output.answered..MOST_LINES {
         let next = streaming::next_line(rt, out, block, run);
         let input = next.input;
         if !input.ready {
@@ -99,30 +100,32 @@ fn answer_line(
 }
 
 // Puts the answer, and answers the place after it. No message is longer than 14 octets.
-fn put_chosen(out: &mut [u8; 65536], at: usize, number: u64, asked: Asked, list: u16) -> usize
+fn put_chosen(
+    out: &mut [u8; 65536],
+    at: usize,
+    number: u64,
+    asked: Result<Request, Unreadable>,
+    list: u16,
+) -> usize
     requires { at + 65 ≤ 65536 }
     ensures { PutsChosen list number asked out.old at out.new result }
 {
-    let Asked::Request(request) = asked else {
-        return request_lines::put_answer(out, at, number, Answer::Unreadable, b"");
+    let Ok(request) = asked else {
+        return request_lines::put_answer(out, at, number, Answer::Unreadable);
     };
     let mut message = [0; 14];
-    let written = choice::choose(&mut message, request, list);
-    let outcome = written.outcome;
-    let length = written.length;
-    request_lines::put_answer(
-        out,
-        at,
-        number,
-        Answer::Chosen(outcome),
-        &message[0..length],
-    )
+    match choice::choose(&mut message, request, list) {
+        Ok(length) => {
+            let answer = Answer::Message(&message[..length]);
+            request_lines::put_answer(out, at, number, answer)
+        }
+        Err(why) => request_lines::put_answer(out, at, number, Answer::Refused(why)),
+    }
 }
 
 // The receiver's list, in the line that is held.
-fn list_held(block: &[u8], input: Input) -> u16
-    requires block_len { length block.now ≡ 65536 }
-    requires sound_input { SoundInput input }
+fn list_held(block: &[u8; 65536], input: Input) -> u16
+    requires { SoundInput input }
     ensures { (line : List ℕ) → Line block.now input line → LineLists line result }
 {
     if input.long {
@@ -130,7 +133,7 @@ fn list_held(block: &[u8], input: Input) -> u16
     }
     let from = input.from;
     let end = input.end;
-    let ListRead::Shapes(list) = request_lines::list_in(&block[from..end]) else {
+    let Some(list) = request_lines::list_in(&block[from..end]) else {
         return no_list();
     };
     list
@@ -148,13 +151,12 @@ fn no_list() -> u16
 }
 
 // The request in the line that is held.
-fn request_held(block: &[u8], input: Input) -> Asked
-    requires block_len { length block.now ≡ 65536 }
-    requires sound_input { SoundInput input }
+fn request_held(block: &[u8; 65536], input: Input) -> Result<Request, Unreadable>
+    requires { SoundInput input }
     ensures { (line : List ℕ) → Line block.now input line → LineAsks line result }
 {
     if input.long {
-        return Asked::Unreadable;
+        return Err(Unreadable);
     }
     let from = input.from;
     let end = input.end;

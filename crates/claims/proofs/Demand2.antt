@@ -1,17 +1,13 @@
 -- DEMAND 2 holds, for shapes and for velocities.
+use Rattle.std.specs.Prelude.{Result, Ok}
 use Prim.Native.Nat.{ℕ}
-use mathlib.Core.Path.{◌≡◌, ap, sym, subst, ◌∙◌}
+use mathlib.Core.Path.{◌≡◌, refl, ap, sym, subst, ◌∙◌}
 use mathlib.Core.List.{List, ◌++◌}
 use native.Mathlib.Omega.{arith}
 use lib.ListN.{length, take, drop}
 use lib.Seq.{take_at, drop_at}
-use Rattle.ground.specs.Answers.{outcome_number}
-use Rattle.ground.specs.declared.refusals.Outcome.{Outcome}
-use Rattle.ground.specs.declared.refusals.Outcome.TheVariants.{Done}
+use Rattle.ground.specs.declared.refusals.Refusal.{Refusal}
 use Rattle.octets.specs.Bits.{bits}
-use Rattle.layout.specs.declared.Written.{Written}
-use Rattle.layout.specs.declared.shape.ShapeRead.{ShapeRead}
-use Rattle.layout.specs.declared.velocity.VelocityRead.{VelocityRead}
 use Rattle.layout.specs.Layout.{MessageField, Row, velocity_rows}
 use Rattle.layout.specs.Rows.{length_of, spare_zero}
 use Rattle.layout.specs.Demands.{ReadAnswer, WriteAnswer, Writes}
@@ -29,50 +25,34 @@ use Rattle.claims.proofs.ShapeReturns.{shape-however-often}
 use Rattle.claims.proofs.VelocityReturns.{velocity-however-often}
 
 -- a message that is read and written again, by the answer and the buffer
-module _ (rows : List Row) (tidy : Tidy rows) (s : List ℕ) (read : ReadAnswer rows s 0) (before after : List ℕ) (w : Written) where
-  written-again : w ≡ record { outcome = Done; length = length s } → after ≡ spare_zero rows s ++ drop (length s) before → Again rows s before after w
+module _ (rows : List Row) (tidy : Tidy rows) (s : List ℕ) (read : ReadAnswer rows s 0) (before after : List ℕ) (w : Result ℕ Refusal) where
+  written-again : w ≡ Ok (length s) → after ≡ spare_zero rows s ++ drop (length s) before → Again rows s before after w
   written-again taken put =
       let m = spare_zero rows s in
       let is = spare-zero-is rows tidy s in
       let long : length m ≡ length s = is.long ∙ sym (readable rows s read).long in
       record {
-        answer = ap (λ (v : Written). outcome_number v.outcome) taken;
-        long = ap (λ (v : Written). v.length) taken;
+        answer = taken;
         message = subst (IsMessage rows (in_row s)) (sym (ap (take (length s)) put ∙ take_at m (drop (length s) before) (length s) long)) is;
         rest = ap (drop (length s)) put ∙ drop_at m (drop (length s) before) (length s) long;
       }
 
 -- a record that is written is taken, whatever the room
-pub taken-alone : (rows : List Row) (value : MessageField → ℕ) (before after : List ℕ) (w : Written) → Writes rows value before after w → w.outcome ≡ Done → WriteAnswer rows value (length_of rows) 0
-taken-alone rows value before after w writes done =
-    write_done rows value (length_of rows)
-    (sound rows value (length before) (subst (λ (o : Outcome). WriteAnswer rows value (length before) (outcome_number o)) done writes.answer)).0
-    (omega arith)
+pub taken-alone : (rows : List Row) (value : MessageField → ℕ) (before after : List ℕ) (n : ℕ) → Writes rows value before after (Ok n) → WriteAnswer rows value (length_of rows) 0
+taken-alone rows value before after n writes = write_done rows value (length_of rows) (sound rows value (length before) writes.answer).0 (omega arith)
 
 pub demand-2-shapes : Demand2 shapes
 demand-2-shapes = record {
   again = λ s x reads before after w writes room.
-      let r : ShapeRead = record { outcome = Done; shape = x } in
-      written-again (rows_in s) (shape-tidy (kind_in s) (bits s 4 4)) s reads.answer before after w
-      (shape-taken s r reads (λ i. Done) before after w writes room) (shape-again s r reads (λ i. Done) before after w writes room);
-  back = λ x whole before after w writes done o y reads.
-      let e = shape-back x before after w (record { outcome = o; shape = y }) whole writes done reads in
-      record { answer = ap (λ (r : ShapeRead). outcome_number r.outcome) e; value = ap (λ (r : ShapeRead). r.shape) e };
-  kept = λ x whole before after w writes done order n o y travels.
-      let e = shape-however-often x (taken-alone (rows_of x) (value_of x) before after w writes done) order whole travels in
-      record { answer = ap outcome_number e.0; value = e.1 };
+      written-again (rows_in s) (shape-tidy (kind_in s) (bits s 4 4)) s reads.answer before after w (shape-taken s (Ok x) reads x refl before after w writes room) (shape-again s (Ok x) reads x refl before after w writes room);
+  back = λ x whole before after n writes r reads. shape-back x before after (Ok n) n r whole writes refl reads;
+  kept = λ x whole before after n writes order m r travels. shape-however-often x (taken-alone (rows_of x) (value_of x) before after n writes) order whole travels;
 }
 
 pub demand-2-velocities : Demand2 velocities
 demand-2-velocities = record {
   again = λ s x reads before after w writes room.
-      let r : VelocityRead = record { outcome = Done; velocity = x } in
-      written-again (velocity_rows_in s) (velocity-tidy (velocity_kind_in s)) s reads.answer before after w
-      (velocity-taken s r reads (λ i. Done) before after w writes room) (velocity-again s r reads (λ i. Done) before after w writes room);
-  back = λ x whole before after w writes done o y reads.
-      let e = velocity-back x before after w (record { outcome = o; velocity = y }) writes done reads in
-      record { answer = ap (λ (r : VelocityRead). outcome_number r.outcome) e; value = ap (λ (r : VelocityRead). r.velocity) e };
-  kept = λ x whole before after w writes done order n o y travels.
-      let e = velocity-however-often x (taken-alone (velocity_rows x.kind) (velocity_value_of x) before after w writes done) travels in
-      record { answer = ap outcome_number e.0; value = e.1 };
+      written-again (velocity_rows_in s) (velocity-tidy (velocity_kind_in s)) s reads.answer before after w (velocity-taken s (Ok x) reads x refl before after w writes room) (velocity-again s (Ok x) reads x refl before after w writes room);
+  back = λ x whole before after n writes r reads. velocity-back x before after (Ok n) n r writes refl reads;
+  kept = λ x whole before after n writes order m r travels. velocity-however-often x (taken-alone (velocity_rows x.kind) (velocity_value_of x) before after n writes) travels;
 }

@@ -1,25 +1,25 @@
 -- ONE ANSWER: each call's promise leaves one number and one content of the array or buffer that it fills: what is handed back is
 -- one thing, by the laws of the inner functions, and one thing is put in one way.
+use Rattle.std.specs.Prelude.{Result, IfOk}
 use Prim.Native.Nat.{ℕ}
 use mathlib.Core.Path.{◌≡◌, sym, ap, subst, ◌∙◌}
 use mathlib.Core.List.{List}
 use lib.IntN.{ℤ}
-use Rattle.ground.specs.Answers.{outcome_number}
-use Rattle.ground.specs.declared.refusals.Outcome.{Outcome}
-use Rattle.ground.proofs.AnswerLaws.{unless-one, outcome-one}
-use Rattle.layout.specs.declared.Written.{Written}
+use Rattle.ground.specs.Answers.{outcome_number, outcome_of, value_or}
+use Rattle.ground.proofs.AnswerLaws.{unless-one, value-told}
+use Rattle.ground.specs.declared.refusals.Refusal.{Refusal}
+use Rattle.layout.specs.declared.velocity.Velocity.{Velocity}
+use Rattle.layout.specs.declared.shape.Shape.{Shape}
 use Rattle.layout.specs.declared.shape.Kind.TheVariants as shape
-use Rattle.layout.specs.declared.shape.ShapeRead.{ShapeRead}
 use Rattle.layout.specs.declared.velocity.VelocityKind.TheVariants as velocity
-use Rattle.layout.specs.declared.velocity.VelocityRead.{VelocityRead}
 use Rattle.layout.specs.Layout.{MessageField, Row, velocity_rows}
 use Rattle.layout.specs.Rows.{length_of}
+use Rattle.layout.specs.Demands.{WriteAnswer}
 use Rattle.layout.specs.Shapes.{blank_shape}
 use Rattle.layout.specs.Velocities.{blank_velocity}
 use Rattle.layout.proofs.OneMessage.{write-answer-one, writes_one, buffer-one}
 use Rattle.layout.proofs.OneMessage as trips
 use Rattle.quantities.specs.Places.{PlaceQuantities}
-use Rattle.quantities.specs.Promises.{Given}
 use Rattle.quantities.specs.Shapes.{quantity_at, quantity_rows, QuantitiesOf, RecordOf, no_shape}
 use Rattle.quantities.specs.Velocities.{velocity_quantity_at, VelocityQuantitiesOf, VelocityRecordOf, no_velocity}
 use Rattle.claims.proofs.PlaceLaws.{code-answer-one}
@@ -33,9 +33,9 @@ use Rattle.code_arrays.specs.Answers.{answer_of, PutsElements}
 use Rattle.code_arrays.proofs.PutLaws.{puts-answer-one, puts-array-one, of-array-one}
 use Rattle.code_arrays.specs.Shapes.{shape_elements, array_rows, value_in, record_in}
 use Rattle.code_arrays.specs.Velocities.{velocity_elements, array_velocity_rows, velocity_value_in, velocity_record_in}
-use Rattle.quantity_arrays.specs.Shapes.{quantity_elements, quantities_in}
-use Rattle.quantity_arrays.specs.Velocities.{velocity_quantity_elements, velocity_quantities_in}
-use Rattle.field_arrays.specs.Fields.{said_code_outcome, said_code_elements, said_quantity_outcome, said_quantity_elements}
+use Rattle.quantity_arrays.specs.Shapes.{quantity_elements, quantities_in, ShapeArrives}
+use Rattle.quantity_arrays.specs.Velocities.{velocity_quantity_elements, velocity_quantities_in, VelocityArrives}
+use Rattle.field_arrays.specs.Fields.{said_code_elements, said_quantity_elements}
 use Rattle.array_records.specs.Records.{CodeElementsAnswer}
 use Rattle.library.specs.Promises.{ReadsShapeInto, ReadsVelocityInto, WritesSaid, WritesShapeFrom, WritesVelocityFrom, ReportsShapeFrom, ReportsVelocityFrom, CodesShapeFrom, CodesVelocityFrom, ChoosesIn, no_request, chosen, ChoosesFrom, CodesOne, ReportsOne}
 use Rattle.claims.proofs.OneRequest.{request-one}
@@ -43,35 +43,34 @@ use Rattle.claims.proofs.OneField.{codes-field-one, reports-field-one}
 
 -- ---- what is handed back is put in one way
 
-puts_one : {B : Type 0} {o u : Outcome} {x y before after after' : List B} {n n' : ℤ} → o ≡ u → x ≡ y
+puts_one : {B : Type 0} {o u : Result Unit Refusal} {x y before after after' : List B} {n n' : ℤ} → o ≡ u → x ≡ y
     → PutsElements o x before after n → PutsElements u y before after' n' → (n ≡ n') × (after ≡ after')
 puts_one e f p q = (puts-answer-one e f p q, puts-array-one e f p q)
 
--- an outcome that one number tells, and what it hands back
-module _ {A B : Type 0} (Right : A → Type 0) (none : A) (elements : A → List B) (one : (o : Outcome) (x y : A) → Given o (Right x) (x ≡ none) → Given o (Right y) (y ≡ none) → x ≡ y) where
-  given-one : {o u : Outcome} {x y : A} {before after after' : List B} {n n' : ℤ} → outcome_number o ≡ outcome_number u
-      → Given o (Right x) (x ≡ none) → Given u (Right y) (y ≡ none)
-      → PutsElements o (elements x) before after n → PutsElements u (elements y) before after' n' → (n ≡ n') × (after ≡ after')
-  given-one {o} {u} {x} {y} m a b =
-      let e = outcome-one o u m in
-      puts_one e (ap elements (one u x y (subst (λ (t : Outcome). Given t (Right x) (x ≡ none)) e a) b))
+-- an answer whose number and whose value are one
+module _ {A B : Type 0} (Right : A → Type 0) (none : A) (elements : A → List B) (one : (x y : A) → Right x → Right y → x ≡ y) (promise : ℕ → Type 0) (number-one : (a b : ℕ) → promise a → promise b → a ≡ b) where
+  given-one : (r q : Result A Refusal) {before after after' : List B} {n n' : ℤ} → promise (outcome_number r) → promise (outcome_number q) → IfOk r Right → IfOk q Right
+      → PutsElements (outcome_of r) (elements (value_or none r)) before after n → PutsElements (outcome_of q) (elements (value_or none q)) before after' n' → (n ≡ n') × (after ≡ after')
+  given-one r q p o v w =
+      let e = value-told promise number-one Right one r q p o v w in
+      puts_one (ap outcome_of e) (ap (λ (x : Result A Refusal). elements (value_or none x)) e)
 
 -- ---- reading
 
 pub reads-shape-one : (s before after after' : List ℕ) (n n' : ℤ) → ReadsShapeInto s before after n → ReadsShapeInto s before after' n' → (n ≡ n') × (after ≡ after')
 reads-shape-one s before after after' n n' a b =
     let e = trips.reads-shape-one s a.read b.read a.promise b.promise in
-    puts_one (ap (λ (r : ShapeRead). r.outcome) e) (ap (λ (r : ShapeRead). shape_elements r.shape) e) a.put b.put
+    puts_one (ap outcome_of e) (ap (λ (r : Result Shape Refusal). shape_elements (value_or (blank_shape shape.Nothing) r)) e) a.put b.put
 
 pub reads-velocity-one : (s before after after' : List ℕ) (n n' : ℤ) → ReadsVelocityInto s before after n → ReadsVelocityInto s before after' n' → (n ≡ n') × (after ≡ after')
 reads-velocity-one s before after after' n n' a b =
     let e = trips.reads-velocity-one s a.read b.read a.promise b.promise in
-    puts_one (ap (λ (r : VelocityRead). r.outcome) e) (ap (λ (r : VelocityRead). velocity_elements r.velocity) e) a.put b.put
+    puts_one (ap outcome_of e) (ap (λ (r : Result Velocity Refusal). velocity_elements (value_or (blank_velocity velocity.Nothing) r)) e) a.put b.put
 
 -- ---- writing
 
-answer-said-one : {w v : Written} {n n' : ℤ} → w ≡ v → n ≡ answer_of w.outcome w.length → n' ≡ answer_of v.outcome v.length → n ≡ n'
-answer-said-one e p q = p ∙ ap (λ (w : Written). answer_of w.outcome w.length) e ∙ sym q
+answer-said-one : {w v : Result ℕ Refusal} {n n' : ℤ} → w ≡ v → n ≡ answer_of w → n' ≡ answer_of v → n ≡ n'
+answer-said-one e p q = p ∙ ap answer_of e ∙ sym q
 
 module _ (rows : List Row) (value : MessageField → ℕ) (before after after' : List ℕ) (n n' : ℤ) where
   writes-said-one : WritesSaid rows value before after n → WritesSaid rows value before after' n' → (n ≡ n') × (after ≡ after')
@@ -93,14 +92,14 @@ reports-shape-one elements before after after' n n' a b =
     of-array-one a b
     (λ p q.
     given-one (QuantitiesOf (record_in elements)) no_shape quantity_elements (shapes.reported-one (record_in elements))
-    (write-answer-one (array_rows elements) (value_in elements) (length_of (array_rows elements)) _ _ p.promise.answer q.promise.answer) p.promise.quantities q.promise.quantities p.put q.put)
+    (WriteAnswer (array_rows elements) (value_in elements) (length_of (array_rows elements))) (write-answer-one (array_rows elements) (value_in elements) (length_of (array_rows elements))) _ _ p.promise.answer q.promise.answer p.promise.quantities q.promise.quantities p.put q.put)
 
 pub reports-velocity-one : (elements : List ℕ) (before after after' : List ℤ) (n n' : ℤ) → ReportsVelocityFrom elements before after n → ReportsVelocityFrom elements before after' n' → (n ≡ n') × (after ≡ after')
 reports-velocity-one elements before after after' n n' a b =
     of-array-one a b
     (λ p q.
     given-one (VelocityQuantitiesOf (velocity_record_in elements)) no_velocity velocity_quantity_elements (velocities.reported-one (velocity_record_in elements))
-    (write-answer-one (array_velocity_rows elements) (velocity_value_in elements) (length_of (array_velocity_rows elements)) _ _ p.promise.answer q.promise.answer) p.promise.quantities q.promise.quantities p.put q.put)
+    (WriteAnswer (array_velocity_rows elements) (velocity_value_in elements) (length_of (array_velocity_rows elements))) (write-answer-one (array_velocity_rows elements) (velocity_value_in elements) (length_of (array_velocity_rows elements))) _ _ p.promise.answer q.promise.answer p.promise.quantities q.promise.quantities p.put q.put)
 
 -- ---- coding
 
@@ -113,7 +112,7 @@ codes-shape-one elements before after after' n n' a b =
     of-array-one a b
     (λ p q.
     given-one (RecordOf x) (blank_shape shape.Nothing) shape_elements (shapes.coded-one x)
-    (code-elements-one _ (quantity_rows x) x.count (quantity_at x) _ _ p.promise.answer q.promise.answer) p.promise.shape q.promise.shape p.put q.put)
+    (CodeElementsAnswer (ShapeArrives elements) (quantity_rows x) x.count (quantity_at x)) (code-elements-one (ShapeArrives elements) (quantity_rows x) x.count (quantity_at x)) _ _ p.promise.answer q.promise.answer p.promise.shape q.promise.shape p.put q.put)
 
 pub codes-velocity-one : (elements : List ℤ) (before after after' : List ℕ) (n n' : ℤ) → CodesVelocityFrom elements before after n → CodesVelocityFrom elements before after' n' → (n ≡ n') × (after ≡ after')
 codes-velocity-one elements before after after' n n' a b =
@@ -121,7 +120,7 @@ codes-velocity-one elements before after after' n n' a b =
     of-array-one a b
     (λ p q.
     given-one (VelocityRecordOf x) (blank_velocity velocity.Nothing) velocity_elements (velocities.coded-one x)
-    (code-elements-one _ (velocity_rows x.kind) 0 (velocity_quantity_at x) _ _ p.promise.answer q.promise.answer) p.promise.velocity q.promise.velocity p.put q.put)
+    (CodeElementsAnswer (VelocityArrives elements) (velocity_rows x.kind) 0 (velocity_quantity_at x)) (code-elements-one (VelocityArrives elements) (velocity_rows x.kind) 0 (velocity_quantity_at x)) _ _ p.promise.answer q.promise.answer p.promise.velocity q.promise.velocity p.put q.put)
 
 -- ---- the choice
 
@@ -141,9 +140,9 @@ chooses-one elements list before after after' n n' a b = of-array-one a b (chose
 pub codes-one : (field : ℕ) (quantity : ℤ) (before after after' : List ℕ) (n n' : ℤ) → CodesOne field quantity before after n → CodesOne field quantity before after' n' → (n ≡ n') × (after ≡ after')
 codes-one field quantity before after after' n n' a b =
     let e = codes-field-one a.promise b.promise in
-    puts_one (ap said_code_outcome e) (ap said_code_elements e) a.put b.put
+    puts_one (ap outcome_of e) (ap said_code_elements e) a.put b.put
 
 pub reports-one : (field : ℕ) (code : List ℕ) (before after after' : List ℤ) (n n' : ℤ) → ReportsOne field code before after n → ReportsOne field code before after' n' → (n ≡ n') × (after ≡ after')
 reports-one field code before after after' n n' a b =
     let e = reports-field-one a.promise b.promise in
-    puts_one (ap said_quantity_outcome e) (ap said_quantity_elements e) a.put b.put
+    puts_one (ap outcome_of e) (ap said_quantity_elements e) a.put b.put

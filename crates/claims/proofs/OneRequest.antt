@@ -1,20 +1,18 @@
 -- Elements say one request: each of its parts is made again from their numbers.
+use Rattle.std.specs.Prelude.{Option, Some, None}
 use Prim.Native.Nat.{ℕ}
 use mathlib.Core.Path.{◌≡◌, refl, sym, ap, subst, ◌∙◌}
 use mathlib.Core.List.{List}
 use native.Mathlib.Omega.{arith}
 use lib.IntN.{ℤ, pos, negsuc}
-use Rattle.ground.specs.declared.quantity.Confidence.{Confidence}
-use Rattle.ground.specs.declared.quantity.Confidence.TheVariants as confident
 use Rattle.requests.specs.declared.Request.{Request}
-use Rattle.requests.specs.declared.Altitude.{Altitude}
-use Rattle.requests.specs.declared.Altitude.TheVariants as level
 use Rattle.requests.specs.declared.Horizontal.{Horizontal}
 use Rattle.requests.specs.declared.Horizontal.TheVariants as horizontal
-use Rattle.requests.specs.declared.AltitudeUncertainty.{AltitudeUncertainty}
-use Rattle.requests.specs.declared.AltitudeUncertainty.TheVariants as height
 use Rattle.code_arrays.specs.QuantityNumbers.{quantity_in, missing, Signed32}
 use Rattle.library.specs.Requests.{ElementSaysAltitude, ElementsSayHorizontal, ElementSaysUncertainty, ElementSaysConfidence, ElementsSay}
+use Rattle.ground.specs.declared.quantity.Millimetres.{Millimetres}
+use Rattle.ground.specs.declared.quantity.PerCent.{PerCent}
+use Rattle.ground.specs.declared.quantity.SignedMillimetres.{SignedMillimetres}
 
 -- by the number of an element; no number is below 0, and the mark of a missing one is
 abbrev pub by_number : {A : Type 0} → (ℕ → A) → A → ℤ → A
@@ -26,11 +24,11 @@ by_number given none (negsuc n) = none
 marked-outside : (z x : ℤ) → z ≡ x → Signed32 x → z ≡ missing → ⊥
 marked-outside z x e h m = let g = subst Signed32 (sym e ∙ m) h in omega arith
 
-altitude-one : (z : ℤ) (a b : Altitude) → ElementSaysAltitude z a → ElementSaysAltitude z b → a ≡ b
-altitude-one z (level.Asked a) (level.Asked b) s t = let e = sym s.number ∙ t.number in λ i. level.Asked (record { 0 = e i })
-altitude-one z (level.Asked a) level.NotAsked s t = absurd (marked-outside z a.0 s.number s.fits t)
-altitude-one z level.NotAsked (level.Asked b) s t = absurd (marked-outside z b.0 t.number t.fits s)
-altitude-one z level.NotAsked level.NotAsked s t = refl
+altitude-one : (z : ℤ) (a b : Option SignedMillimetres) → ElementSaysAltitude z a → ElementSaysAltitude z b → a ≡ b
+altitude-one z (Some a) (Some b) s t = let e = sym s.number ∙ t.number in λ i. Some (record { 0 = e i })
+altitude-one z (Some a) None s t = absurd (marked-outside z a.0 s.number s.fits t)
+altitude-one z None (Some b) s t = absurd (marked-outside z b.0 t.number t.fits s)
+altitude-one z None None s t = refl
 
 abbrev area_in : ℤ → ℤ → ℤ → Horizontal
 area_in x y z =
@@ -43,19 +41,19 @@ area-back x y z (horizontal.Circle R) s = λ i. area_in (s.0.number i) (s.1 i) z
 area-back x y z (horizontal.Ellipse R S a) s = λ i. area_in (s.0.number i) (s.1.number i) (s.2.number i)
 area-back x y z horizontal.NotAsked s = λ i. area_in (s.0 i) y z
 
-abbrev height_in : ℤ → AltitudeUncertainty
-height_in = by_number (λ R. height.Asked (record { 0 = R })) height.NotAsked
+abbrev height_in : ℤ → Option Millimetres
+height_in = by_number (λ R. Some (record { 0 = R })) None
 
-height-back : (z : ℤ) (a : AltitudeUncertainty) → ElementSaysUncertainty z a → height_in z ≡ a
-height-back z (height.Asked R) s = ap height_in s.number
-height-back z height.NotAsked s = ap height_in s
+height-back : (z : ℤ) (a : Option Millimetres) → ElementSaysUncertainty z a → height_in z ≡ a
+height-back z (Some R) s = ap height_in s.number
+height-back z None s = ap height_in s
 
-abbrev pub confidence_in : ℤ → Confidence
-confidence_in = by_number confident.PerCent confident.Missing
+abbrev pub confidence_in : ℤ → Option PerCent
+confidence_in = by_number (λ n. Some (record { 0 = n })) None
 
-confidence-back : (z : ℤ) (a : Confidence) → ElementSaysConfidence z a → confidence_in z ≡ a
-confidence-back z (confident.PerCent n) s = ap confidence_in s.number
-confidence-back z confident.Missing s = ap confidence_in s
+confidence-back : (z : ℤ) (a : Option PerCent) → ElementSaysConfidence z a → confidence_in z ≡ a
+confidence-back z (Some n) s = ap confidence_in s.number
+confidence-back z None s = ap confidence_in s
 
 -- ---- the request
 

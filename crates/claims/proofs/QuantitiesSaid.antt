@@ -1,4 +1,5 @@
 -- QUANTITIES THAT ARE PUT INTO AN ARRAY are said by it, and arrive, where they are a record's that the writer takes.
+use Rattle.std.specs.Prelude.{Option, Some, None, Result}
 use Prim.Native.Nat.{ℕ, ◌≤◌, ◌<◌}
 use mathlib.Core.Path.{◌≡◌, refl, sym, ap, subst, ◌∙◌}
 use mathlib.Core.List.{List, ◌++◌}
@@ -9,11 +10,10 @@ use lib.Signed.{mag}
 use borrow.Author.Count.{below_more}
 use borrow.Author.Tests.{lt-ltb}
 use Rattle.ground.specs.Answers.{unmet, met}
-use Rattle.ground.specs.declared.quantity.Confidence.{Confidence}
-use Rattle.ground.specs.declared.quantity.Confidence.TheVariants as confident
 use Rattle.ground.specs.declared.quantity.Nanodegrees.{Nanodegrees}
-use Rattle.ground.specs.declared.quantity.UncertaintySpeed.{UncertaintySpeed}
-use Rattle.ground.specs.declared.quantity.UncertaintySpeed.TheVariants as uncertain
+use Rattle.ground.specs.declared.quantity.PerCent.{PerCent}
+use Rattle.ground.specs.declared.quantity.MetresPerHour.{MetresPerHour}
+use Rattle.ground.specs.declared.refusals.Refusal.{Refusal}
 use Rattle.fields.specs.Fields as field
 use Rattle.layout.specs.declared.shape.Kind.{Kind}
 use Rattle.layout.specs.declared.shape.Shape.{Shape}
@@ -28,9 +28,7 @@ use Rattle.layout.proofs.ShapeTrips as shapes
 use Rattle.layout.proofs.VelocityTrips as velocities
 use Rattle.layout.proofs.WidthLaws.{code_of, velocity-code-of}
 use Rattle.quantities.specs.declared.shape.ShapeQuantities.{ShapeQuantities}
-use Rattle.quantities.specs.declared.shape.ShapeCoded.{ShapeCoded}
 use Rattle.quantities.specs.declared.velocity.VelocityQuantities.{VelocityQuantities}
-use Rattle.quantities.specs.declared.velocity.VelocityCoded.{VelocityCoded}
 use Rattle.quantities.specs.Places.{Place, field_of, PlaceQuantities}
 use Rattle.quantities.specs.Places as place
 use Rattle.quantities.specs.Promises.{CodeAnswer}
@@ -58,21 +56,21 @@ natural-said {n} h = sym (natural-is (pos n) h)
 signed-said : (z : ℤ) → mag z < 2147483648 → signed_of z ≡ z
 signed-said z h = simp (lt-ltb (mag z) 2147483648 h)
 
-confidence-said : (c : Confidence) → Small field.confidence c → confidence_of (confidence_element c) ≡ c
-confidence-said (confident.PerCent p) h = ap confident.PerCent (natural-said h)
-confidence-said confident.Missing h = refl
+confidence-said : (c : Option PerCent) → Small field.confidence c → confidence_of (confidence_element c) ≡ c
+confidence-said (Some p) h = λ j. Some (record { 0 = natural-said h j })
+confidence-said None h = refl
 
-confidence-arrives : (c : Confidence) → Small field.confidence c → Optional (confidence_element c)
-confidence-arrives (confident.PerCent p) h = λ some. h
-confidence-arrives confident.Missing h = λ some. absurd (some refl)
+confidence-arrives : (c : Option PerCent) → Small field.confidence c → Optional (confidence_element c)
+confidence-arrives (Some p) h = λ some. h
+confidence-arrives None h = λ some. absurd (some refl)
 
-speed-said : (u : UncertaintySpeed) → Small field.uncertainty_speed u → uncertainty_speed_of (uncertainty_speed_element u) ≡ u
-speed-said (uncertain.Speed s) h = λ j. uncertain.Speed (record { 0 = natural-said h j })
-speed-said uncertain.Missing h = refl
+speed-said : (u : Option MetresPerHour) → Small field.uncertainty_speed u → uncertainty_speed_of (uncertainty_speed_element u) ≡ u
+speed-said (Some s) h = λ j. Some (record { 0 = natural-said h j })
+speed-said None h = refl
 
-speed-arrives : (u : UncertaintySpeed) → Small field.uncertainty_speed u → Optional (uncertainty_speed_element u)
-speed-arrives (uncertain.Speed s) h = λ some. h
-speed-arrives uncertain.Missing h = λ some. absurd (some refl)
+speed-arrives : (u : Option MetresPerHour) → Small field.uncertainty_speed u → Optional (uncertainty_speed_element u)
+speed-arrives (Some s) h = λ some. h
+speed-arrives None h = λ some. absurd (some refl)
 
 -- the kind of a type's number
 kind-said : {K : Type 0} (kinds : ℕ → K) {t : ℕ} {k : K} → t < 16 → kinds t ≡ k → kinds (octet_of (pos t)) ≡ k
@@ -147,7 +145,7 @@ module _ (x : Shape) (takes : TakesShape x) (q : ShapeQuantities) (reported : Qu
   shape-arrives = record { level = small place.altitude; sureness = confidence-arrives q.confidence (small place.confidence); naturals = naturals-arrive }
 
   -- so they are what is coded
-  pub shape-coded : (c : ShapeCoded) → CodesShapeIn (quantity_elements q ++ rest) c → CodesShape q c
+  pub shape-coded : (c : Result Shape Refusal) → CodesShapeIn (quantity_elements q ++ rest) c → CodesShape q c
   shape-coded c p = subst (λ (said : ShapeQuantities). CodesShape said c) quantities-said (record { answer = arrived shape-arrives p.answer; shape = p.shape })
 
 -- ---- a velocity's quantities
@@ -181,5 +179,5 @@ module _ (x : Velocity) (takes : TakesVelocity x) (q : VelocityQuantities) (repo
     vertical_sureness = speed-arrives q.vertical_uncertainty (motion-small place.vertical_uncertainty);
   }
 
-  pub velocity-coded : (c : VelocityCoded) → CodesVelocityIn (velocity_quantity_elements q ++ rest) c → CodesVelocity q c
+  pub velocity-coded : (c : Result Velocity Refusal) → CodesVelocityIn (velocity_quantity_elements q ++ rest) c → CodesVelocity q c
   velocity-coded c p = subst (λ (said : VelocityQuantities). CodesVelocity said c) velocity-quantities-said (record { answer = arrived velocity-arrives p.answer; velocity = p.velocity })

@@ -1,5 +1,6 @@
 -- WHAT IS REPORTED IS SMALL: a quantity that a field reports, and the zero of what a type doesn't use, is one that its element's
 -- width holds.
+use Rattle.std.specs.Prelude.{Some, None}
 use Prim.Native.Nat.{ℕ, ◌*◌, ◌≤◌, ◌<◌}
 use mathlib.Core.Path.{◌≡◌, sym, subst}
 use mathlib.Core.Bool.{Bool, true, false}
@@ -11,8 +12,6 @@ use lib.Signed.{mag}
 use Rattle.ground.specs.Answers.{done}
 use Rattle.ground.specs.Signs.{signed}
 use Rattle.ground.specs.Sets.{GreatestCovered}
-use Rattle.ground.specs.declared.quantity.UncertaintySpeed.TheVariants as uncertain
-use Rattle.ground.specs.declared.quantity.Confidence.TheVariants as confident
 use Rattle.radii.specs.Covering.{Covers}
 use Rattle.radii.specs.Tables.{whole_part}
 use Rattle.radii.proofs.CoverLaws.{covers_up}
@@ -39,10 +38,10 @@ Small field.orientation x = x.0 < 4294967296
 Small field.bearing x = x.0 < 4294967296
 Small field.horizontal_speed x = x.0 < 4294967296
 Small field.vertical_speed x = mag x.0 < 2147483648
-Small field.uncertainty_speed (uncertain.Speed s) = s.0 < 4294967296
-Small field.uncertainty_speed uncertain.Missing = Unit {0}
-Small field.confidence (confident.PerCent p) = p < 4294967296
-Small field.confidence confident.Missing = Unit {0}
+Small field.uncertainty_speed (Some s) = s.0 < 4294967296
+Small field.uncertainty_speed None = Unit {0}
+Small field.confidence (Some p) = p.0 < 4294967296
+Small field.confidence None = Unit {0}
 
 -- no code covers more than the last
 module _ (scale num den : ℕ) (some : 0 < den) (g : den ≤ num) (most : whole_part scale num den 127 < 4294967296) where
@@ -66,10 +65,10 @@ reported-small field.orientation c x p = omega (arith, p.member.below, p.member.
 reported-small field.bearing c x p = omega (arith, p.member.below, p.member.code)
 reported-small field.horizontal_speed c x p = omega (arith, p.speed, p.code)
 reported-small field.vertical_speed c x p = signed-small c.0 (1000 * c.1) p.speed (omega (arith, p.code))
-reported-small field.uncertainty_speed c (uncertain.Speed s) p = omega (arith, p.covered.within, p.code)
-reported-small field.uncertainty_speed c uncertain.Missing p = tt
-reported-small field.confidence c (confident.PerCent n) p = omega (arith, p.most)
-reported-small field.confidence c confident.Missing p = tt
+reported-small field.uncertainty_speed c (Some s) p = omega (arith, p.covered.within, p.code)
+reported-small field.uncertainty_speed c None p = tt
+reported-small field.confidence c (Some n) p = omega (arith, p.most)
+reported-small field.confidence c None p = tt
 
 zero-small : (f : Field) → Small f (zero_quantity f)
 zero-small field.latitude = tt

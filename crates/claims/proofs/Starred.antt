@@ -1,4 +1,5 @@
 -- The starred bench figures hold.
+use Rattle.std.specs.Prelude.{Some, None}
 use mathlib.Core.Path.{◌≡◌, refl, subst}
 use mathlib.Core.Bool.{true, false}
 use mathlib.Core.List.{List, [], ◌∷◌, ◌++◌}
@@ -9,7 +10,6 @@ use lib.Dec.{T, leb, ltb, leb→le, ltb→lt}
 use lib.IntN.{ℤ, negsuc, nat_abs}
 use borrow.Author.Rules.{rules}
 use Rattle.ground.specs.Answers.{done}
-use Rattle.ground.specs.declared.quantity.Confidence.TheVariants.{Missing}
 use Rattle.ground.specs.Sets.{LeastCode}
 use Rattle.ground.proofs.SetLaws.{below_one}
 use Rattle.radii.specs.Covering.{Covers}
@@ -50,9 +50,9 @@ abbrev wanted : ℕ → Wanted
 wanted J = record {
   latitude = record { 0 = false; 1 = 4194304 };
   longitude = record { 0 = negsuc 4194303 };
-  altitude = record { asked = false; code = record { 0 = false; 1 = 0 } };
-  area = record { asked = true; semi_major = record { 0 = 20 }; semi_minor = record { 0 = J }; orientation = record { 0 = 30 } };
-  altitude_uncertainty = record { asked = false; code = record { 0 = 0 } };
+  altitude = None;
+  area = Some (record { semi_major = record { 0 = 20 }; semi_minor = record { 0 = J }; orientation = record { 0 = 30 } });
+  altitude_uncertainty = None;
   confidence = record { 0 = 0 };
 }
 
@@ -70,14 +70,14 @@ module _ (S J : ℕ) (order : S ≤ 57274) (minor : Coding field.uncertainty (re
   turn = search each
 
   codes : CodesOf (asking S) (wanted J)
-  codes = record { latitudes = latitude; longitudes = longitude; altitudes = (refl, refl); areas = record { is_asked = refl; major = major; minor = minor; turn = turn }; heights = (refl, refl); confidences = refl }
+  codes = record { latitudes = latitude; longitudes = longitude; altitudes = tt; areas = record { major = major; minor = minor; turn = turn }; heights = tt; confidences = refl }
 
   ranged : RequestInRange (asking S)
   ranged = record {
     latitudes = coded-never field.latitude _ _ 7 latitude;
     longitudes = coded-never field.longitude _ _ 7 longitude;
     horizontals = (order, coded-never field.orientation _ _ 7 turn);
-    confidences = coded-never field.confidence Missing (record { 0 = 0 }) 7 refl;
+    confidences = coded-never field.confidence None (record { 0 = 0 }) 7 refl;
   }
 
   covered : RequestCovered (asking S)

@@ -1,10 +1,7 @@
 -- DEMAND 2 in its own words: a message that is written again, a record that is read back and a code that travels keep what they
 -- say. That any coder which keeps its promises meets it is a law (proofs/Demand2.antt).
-use Rattle.std.specs.Prelude.{◌≡◌, List, ℕ, ◌≤◌, length, take, drop}
-use Rattle.ground.specs.Answers.{outcome_number}
-use Rattle.ground.specs.declared.refusals.Outcome.{Outcome}
-use Rattle.ground.specs.declared.refusals.Outcome.TheVariants.{Done}
-use Rattle.layout.specs.declared.Written.{Written}
+use Rattle.std.specs.Prelude.{◌≡◌, List, ℕ, ◌≤◌, length, take, drop, Result, Ok}
+use Rattle.ground.specs.declared.refusals.Refusal.{Refusal}
 use Rattle.layout.specs.declared.shape.Shape.{Shape}
 use Rattle.layout.specs.declared.velocity.Velocity.{Velocity}
 use Rattle.layout.specs.Layout.{Row}
@@ -17,12 +14,12 @@ use Rattle.claims.specs.Travels.{ShapeTravels, VelocityTravels, AxesInOrder}
 pub record Sort (R : Type 0) : Type 1 where
   -- the rows of a message
   pub rows : List ℕ → List Row
-  -- these octets are read with that answer and that record
-  pub Reads : List ℕ → Outcome → R → Type 0
+  -- these octets are read with that answer
+  pub Reads : List ℕ → Result R Refusal → Type 0
   -- the record is written, with the buffer before and after
-  pub Writes : R → List ℕ → List ℕ → Written → Type 0
-  -- the record is reported and coded by its own type, so many times, with that answer and that record
-  pub Travels : R → ℕ → Outcome → R → Type 0
+  pub Writes : R → List ℕ → List ℕ → Result ℕ Refusal → Type 0
+  -- the record is reported and coded by its own type, so many times, with that answer
+  pub Travels : R → ℕ → Result R Refusal → Type 0
   -- its arrays have all their elements, as those of every record of the code have
   pub Whole : R → Type 0
   -- what a trip asks of it
@@ -30,33 +27,27 @@ pub record Sort (R : Type 0) : Type 1 where
 
 -- The octets s, read and written again: done, with their length; each bit of a row as it was and each spare bit 0; the rest of the
 -- buffer as it was.
-pub record Again (rows : List Row) (s before after : List ℕ) (w : Written) : Type 0 where
-  pub answer : outcome_number w.outcome ≡ 0
-  pub long : w.length ≡ length s
+pub record Again (rows : List Row) (s before after : List ℕ) (w : Result ℕ Refusal) : Type 0 where
+  pub answer : w ≡ Ok (length s)
   pub message : IsMessage rows (in_row s) (take (length s) after)
   pub rest : drop (length s) after ≡ drop (length s) before
 
--- done, with the record that it was
-pub record Same {R : Type 0} (x : R) (o : Outcome) (y : R) : Type 0 where
-  pub answer : outcome_number o ≡ 0
-  pub value : y ≡ x
-
 pub record Demand2 {R : Type 0} (sort : Sort R) : Type 0 where
   -- AGAIN: an accepted message, written again where there is room for it
-  pub again : (s : List ℕ) (x : R) → sort.Reads s Done x → (before after : List ℕ) (w : Written) → sort.Writes x before after w → length s ≤ length before → Again (sort.rows s) s before after w
+  pub again : (s : List ℕ) (x : R) → sort.Reads s (Ok x) → (before after : List ℕ) (w : Result ℕ Refusal) → sort.Writes x before after w → length s ≤ length before → Again (sort.rows s) s before after w
   -- BACK: a record that is written, read from the octets of its message
-  pub back : (x : R) → sort.Whole x → (before after : List ℕ) (w : Written) → sort.Writes x before after w → w.outcome ≡ Done → (o : Outcome) (y : R) → sort.Reads (take w.length after) o y → Same x o y
+  pub back : (x : R) → sort.Whole x → (before after : List ℕ) (n : ℕ) → sort.Writes x before after (Ok n) → (r : Result R Refusal) → sort.Reads (take n after) r → r ≡ Ok x
   -- KEPT: a record that is written and in order, reported and coded, however often
-  pub kept : (x : R) → sort.Whole x → (before after : List ℕ) (w : Written) → sort.Writes x before after w → w.outcome ≡ Done → sort.InOrder x → (n : ℕ) (o : Outcome) (y : R) → sort.Travels x n o y → Same x o y
+  pub kept : (x : R) → sort.Whole x → (before after : List ℕ) (n : ℕ) → sort.Writes x before after (Ok n) → sort.InOrder x → (m : ℕ) (r : Result R Refusal) → sort.Travels x m r → r ≡ Ok x
 
 -- ---- the two sorts
 
 abbrev pub shapes : Sort Shape
 shapes = record {
   rows = rows_in;
-  Reads = λ s o x. ReadsShape s (record { outcome = o; shape = x });
+  Reads = ReadsShape;
   Writes = WritesShape;
-  Travels = λ x n o y. ShapeTravels x n (record { outcome = o; shape = y });
+  Travels = ShapeTravels;
   Whole = Fifteen;
   InOrder = AxesInOrder;
 }
@@ -64,9 +55,9 @@ shapes = record {
 abbrev pub velocities : Sort Velocity
 velocities = record {
   rows = velocity_rows_in;
-  Reads = λ s o x. ReadsVelocity s (record { outcome = o; velocity = x });
+  Reads = ReadsVelocity;
   Writes = WritesVelocity;
-  Travels = λ x n o y. VelocityTravels x n (record { outcome = o; velocity = y });
+  Travels = VelocityTravels;
   Whole = λ x. Unit {0};
   InOrder = λ x. Unit {0};
 }

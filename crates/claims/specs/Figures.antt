@@ -1,13 +1,10 @@
 -- The starred bench figures, in the definitions that the functions' contracts cite.
-use Rattle.std.specs.Prelude.{true, false, List, [], ◌∷◌, ◌++◌, ℕ, ◌≤◌, length, drop, ℤ, pos, negsuc}
+use Rattle.std.specs.Prelude.{true, false, List, [], ◌∷◌, ◌++◌, ℕ, ◌≤◌, length, drop, ℤ, pos, negsuc, None}
 use Rattle.ground.specs.Answers.{done}
 use Rattle.ground.specs.declared.quantity.Nanodegrees.{Nanodegrees}
 use Rattle.ground.specs.declared.code.LatitudeCode.{LatitudeCode}
-use Rattle.ground.specs.declared.quantity.Confidence.TheVariants.{Missing}
 use Rattle.requests.specs.declared.Request.{Request}
-use Rattle.requests.specs.declared.Altitude.TheVariants as level
 use Rattle.requests.specs.declared.Horizontal.TheVariants.{Ellipse}
-use Rattle.requests.specs.declared.AltitudeUncertainty.TheVariants as aloft
 use Rattle.requests.specs.Choice.{Listed, Chosen}
 use Rattle.fields.specs.Fields.{Field, CodeOf, QuantityOf, Coding, Reporting}
 use Rattle.fields.specs.Fields as field
@@ -99,10 +96,10 @@ abbrev pub asking : ℕ → Request
 asking S = record {
   latitude = degrees (pos 45000000000);
   longitude = degrees (negsuc 89999999999);
-  altitude = level.NotAsked;
+  altitude = None;
   horizontal = Ellipse (record { 0 = 57274 }) (record { 0 = S }) (record { 0 = 30000 });
-  altitude_uncertainty = aloft.NotAsked;
-  confidence = Missing;
+  altitude_uncertainty = None;
+  confidence = None;
 }
 
 -- the list {1, 3} is 2 + 8

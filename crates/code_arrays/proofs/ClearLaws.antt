@@ -1,23 +1,22 @@
--- Elements cleared by a loop, over any element and its zero.
-use mathlib.Core.Path.{◌≡◌, sym, ap, ◌∙◌}
-use mathlib.Core.List.{List, [], ◌∷◌}
-use Prim.Native.Nat.{ℕ, ◌+◌, ◌-◌, ◌≤◌}
+-- Zeros written over a part of a list, of any element.
+use mathlib.Core.Path.{◌≡◌, sym, ◌∙◌}
+use mathlib.Core.List.{List, append_assoc}
+use Prim.Native.Nat.{ℕ, ◌+◌, ◌≤◌}
 use native.Mathlib.Omega.{arith}
-use lib.ListN.{length, set, replicate, length-replicate, replicate-append-replicate}
-use lib.Seq.{sets}
-use Rattle.ground.proofs.ListLaws.{sets-append}
+use lib.ListN.{length, take, drop, replicate, length-replicate, length-drop}
+use lib.Seq.{sets, sets-eq}
+use borrow.Rule.Slice.PartMut.{put_mid}
+use Rattle.std.proofs.Common.{length-take}
+use Rattle.std.proofs.lemmas.Slice.{put_mid-paste}
+use Rattle.std.proofs.lemmas.List.Edits.{paste_all}
 
 module _ {A : Type 0} (zero : A) where
-  -- no zero yet
-  pub none-cleared : (o : List A) (from : ℕ) → o ≡ sets o from (replicate (from - from) zero)
-  none-cleared o from = let k : from - from ≡ 0 = omega arith in rw k
-
-  -- one zero more
-  pub one-cleared : (o out : List A) (from i : ℕ) → from ≤ i → out ≡ sets o from (replicate (i - from) zero) → set out i zero ≡ sets o from (replicate (i + 1 - from) zero)
-  one-cleared o out from i h e =
-      let k : from + length (replicate (i - from) zero) ≡ i = omega (arith, length-replicate (i - from) zero) in
-      let w : i - from + 1 ≡ i + 1 - from = omega arith in
-      ap (λ (l : List A). set l i zero) e
-      ∙ ap (λ (j : ℕ). sets (sets o from (replicate (i - from) zero)) j (zero ∷ [])) (sym k)
-      ∙ sets-append o from (replicate (i - from) zero) (zero ∷ [])
-      ∙ ap (λ (t : List A). sets o from t) (replicate-append-replicate (i - from) 1 zero ∙ ap (λ (m : ℕ). replicate m zero) w)
+  pub cleared : (o part : List A) (first k n : ℕ) → first + k ≤ length o → k ≡ n → part ≡ replicate (length (take k (drop first o))) zero → put_mid first k o part ≡ sets o first (replicate n zero)
+  cleared o part first k n h e p =
+      let zeros : List A = replicate n zero in
+      let w : length zeros ≡ n = length-replicate n zero in
+      let m : length (take k (drop first o)) ≡ n = omega (arith, length-drop first o, length-take k (drop first o)) in
+      put_mid-paste first k o part zeros n (rw m at p) (sym e) (sym w)
+      ∙ paste_all o first zeros n (sym w)
+      ∙ sym (append_assoc (take first o) zeros (drop (first + n) o))
+      ∙ rw w at (sym (sets-eq zeros o first (omega arith)))

@@ -3,5 +3,6 @@ pub mod ArrayRecords
 pub mod ClearLaws
 pub mod CopyLaws
 pub mod NumberLaws
+pub mod PartLaws
 pub mod PointLaws
 pub mod PutLaws

@@ -9,29 +9,20 @@ use ground::LongitudeCode;
 pub fn capped_octet(n: u32) -> u8
     ensures { result ≡ capped 255 n }
 {
-    if 255 < n {
-        return 255;
-    }
-    n as u8
+    u8::try_from(n).unwrap_or(u8::MAX)
 }
 
 pub fn capped_word(n: u32) -> u16
     ensures { result ≡ capped 65535 n }
 {
-    if 65535 < n {
-        return 65535;
-    }
-    n as u16
+    u16::try_from(n).unwrap_or(u16::MAX)
 }
 
 // The number of a sign.
 pub fn bit(sign: bool) -> u32
     ensures { result ≡ bit_of sign }
 {
-    if sign {
-        return 1;
-    }
-    0
+    u32::from(sign)
 }
 
 // A longitude code and its 32 bits in two's complement.
@@ -54,14 +45,12 @@ pub fn complement_of(code: LongitudeCode) -> u32
     n as u32
 }
 
-// Puts the elements into the first of the array.
+// Puts the elements into the first of the array, one by one, so that the compiler stores each where it is made.
 pub fn put_codes(out: &mut [u32], src: &[u32])
     requires { length src.now ≤ length out.old }
     ensures { out.new ≡ src.now ++ drop (length src.now) out.old }
 {
-    let mut i = 0;
-    while i < src.len() {
+    for i in 0..src.len() {
         out[i] = src[i];
-        i += 1;
     }
 }

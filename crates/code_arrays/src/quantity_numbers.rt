@@ -19,73 +19,46 @@ pub fn missing() -> Whole
 pub fn is_missing(element: Whole) -> bool
     ensures { Decides result (element.0 ≡ missing) }
 {
-    let x = element.0;
-    if -9223372036854775808 < x {
-        return false;
-    }
-    true
+    element.0 == i64::MIN
 }
 
 // Whether 32 bits without a sign hold the number, and the number, 0 where they don't.
 pub fn is_natural(element: Whole) -> bool
     ensures { Decides result (Natural32 element.0) }
 {
-    let x = element.0;
-    if x < 0 {
-        return false;
-    }
-    if x < 4294967296 {
-        return true;
-    }
-    false
+    matches!(element.0, 0..=4294967295)
 }
 
 pub fn natural(element: Whole) -> u32
     ensures { result ≡ natural_of element.0 }
 {
-    if !is_natural(element) {
-        return 0;
-    }
-    let parts = ground::taken_apart(element);
-    parts.size as u32
+    u32::try_from(element.0).unwrap_or(0)
 }
 
 // The same of 32 bits with a sign.
 pub fn is_signed(element: Whole) -> bool
     ensures { Decides result (Signed32 element.0) }
 {
-    let x = element.0;
-    if x < -2147483648 {
-        return false;
-    }
-    if x < 2147483648 {
-        return true;
-    }
-    false
+    matches!(element.0, -2147483648..=2147483647)
 }
 
 pub fn signed(element: Whole) -> Narrow
     ensures { result.0 ≡ signed_of element.0 }
 {
-    if !is_signed(element) {
-        return Narrow(0);
-    }
-    let x = element.0;
-    Narrow(x as i32)
+    Narrow(i32::try_from(element.0).unwrap_or(0))
 }
 
 // A number of 32 bits in an element.
 pub fn wide(n: u32) -> Whole
     ensures { result.0 ≡ pos n }
 {
-    Whole(n as i64)
+    Whole(i64::from(n))
 }
 
 pub fn wide_signed(n: Narrow) -> Whole
     ensures { result.0 ≡ n.0 }
 {
-    let x = n.0;
-    Whole(x as i64)
+    Whole(i64::from(n.0))
 }
 
 // Puts the elements into the first of the array.
@@ -93,9 +66,5 @@ pub fn put_quantities(out: &mut [i64], src: &[i64])
     requires { length src.now ≤ length out.old }
     ensures { out.new ≡ src.now ++ drop (length src.now) out.old }
 {
-    let mut i = 0;
-    while i < src.len() {
-        out[i] = src[i];
-        i += 1;
-    }
+    out[..src.len()].copy_from_slice(src);
 }

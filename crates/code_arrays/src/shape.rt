@@ -17,7 +17,7 @@ pub fn kind_in(codes: &[u32]) -> Kind
     requires { 61 ≤ length codes.now }
     ensures { result ≡ array_kind codes.now }
 {
-    layout::kind_of(code_numbers::capped_octet(codes[0]))
+    Kind::from(code_numbers::capped_octet(codes[0]))
 }
 
 // The record that elements say but for its points, where each number is within its field.
@@ -86,7 +86,7 @@ fn single_elements(shape: Shape) -> [u32; 16]
     let confidence = shape.confidence.0;
     let longitude = shape.longitude;
     let kind = shape.kind;
-    let type_number = layout::type_number(kind);
+    let type_number = u8::from(kind);
     [
         type_number as u32,
         count as u32,
@@ -118,13 +118,8 @@ fn put_points(
     requires n_bound { n ≤ 15 }
     ensures { out.new ≡ sets out.old 16 (point_elements latitudes longitudes n) }
 {
-    let end = n as usize;
-    let mut i = 0;
-    while i < end {
-        let latitude = latitudes[i];
-        let longitude = longitudes[i];
-        put_point(out, i, latitude, longitude);
-        i += 1;
+    for i in 0..n as usize {
+        put_point(out, i, latitudes[i], longitudes[i]);
     }
 }
 
@@ -146,9 +141,6 @@ pub fn clear_from(out: &mut [u32], n: u8)
     requires n_bound { n ≤ 15 }
     ensures { out.new ≡ sets out.old (16 + 3 * n) (replicate (45 - 3 * n) 0) }
 {
-    let mut i = 16 + 3 * (n as usize);
-    while i < 61 {
-        out[i] = 0;
-        i += 1;
-    }
+    let first = 16 + 3 * (n as usize);
+    out[first..61].fill(0);
 }

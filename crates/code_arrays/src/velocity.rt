@@ -5,7 +5,7 @@ ghost use Rattle.code_arrays.specs.Velocities.{velocity_elements, held_velocity,
 
 use crate::code_numbers;
 use ground::{BearingCode, HorizontalSpeedCode, UncertaintySpeedCode, VerticalSpeedCode};
-use layout::Velocity;
+use layout::{Velocity, VelocityKind};
 
 // Puts the elements of a record into the first of the array.
 pub fn put_velocity(out: &mut [u32], velocity: Velocity)
@@ -13,7 +13,7 @@ pub fn put_velocity(out: &mut [u32], velocity: Velocity)
     ensures { out.new ≡ velocity_elements velocity ++ drop 7 out.old }
 {
     let kind = velocity.kind;
-    let type_number = layout::velocity_type_number(kind);
+    let type_number = u8::from(kind);
     out[0] = type_number as u32;
     out[1] = velocity.bearing.0 as u32;
     out[2] = velocity.horizontal_speed.0 as u32;
@@ -28,7 +28,7 @@ pub fn velocity_in(codes: &[u32]) -> Velocity
     requires { 7 ≤ length codes.now }
     ensures { result ≡ held_velocity codes.now }
 {
-    let kind = layout::velocity_kind_of(code_numbers::capped_octet(codes[0]));
+    let kind = VelocityKind::from(code_numbers::capped_octet(codes[0]));
     Velocity {
         kind,
         bearing: BearingCode(code_numbers::capped_word(codes[1])),
@@ -44,23 +44,10 @@ pub fn velocity_is_whole(codes: &[u32]) -> bool
     requires { 7 ≤ length codes.now }
     ensures { Decides result (WholeVelocity codes.now) }
 {
-    if 65535 < codes[1] {
-        return false;
-    }
-    if 65535 < codes[2] {
-        return false;
-    }
-    if 1 < codes[3] {
-        return false;
-    }
-    if 255 < codes[4] {
-        return false;
-    }
-    if 255 < codes[5] {
-        return false;
-    }
-    if 255 < codes[6] {
-        return false;
-    }
-    true
+    codes[1] <= 65535
+        && codes[2] <= 65535
+        && codes[3] <= 1
+        && codes[4] <= 255
+        && codes[5] <= 255
+        && codes[6] <= 255
 }

@@ -1,17 +1,15 @@
 -- A text that was read as a number of some width writes a quantity, or none where there was no such number.
+use Rattle.std.specs.Prelude.{Option, Some, None, Result}
 use mathlib.Core.Path.{◌≡◌, refl, sym, subst, ◌∙◌}
 use mathlib.Core.Bool.{Bool, true, false}
 use mathlib.Core.List.{List}
-use Prim.Native.Nat.{ℕ, ◌<◌}
-use native.Mathlib.Omega.{arith}
+use Prim.Native.Nat.{ℕ}
 use lib.Dec.{T}
 use lib.IntN.{ℤ}
-use Rattle.ground.proofs.MatchLaws.{Passed, passed}
-use Rattle.ground.specs.declared.quantity.UncertaintySpeed.{UncertaintySpeed}
-use Rattle.ground.specs.declared.quantity.UncertaintySpeed.TheVariants as uncertain
-use Rattle.ground.specs.declared.quantity.Confidence.{Confidence}
-use Rattle.ground.specs.declared.quantity.Confidence.TheVariants as confident
+use Rattle.ground.specs.declared.refusals.Refusal.{Refusal}
 use Rattle.ground.specs.declared.said.SaidCode.{SaidCode}
+use Rattle.ground.specs.declared.quantity.PerCent.{PerCent}
+use Rattle.ground.specs.declared.quantity.MetresPerHour.{MetresPerHour}
 use Rattle.fields.specs.Fields.{Field, QuantityOf}
 use Rattle.fields.specs.Fields as field
 use Rattle.one_field.specs.declared.coding.Coordinate.{Coordinate}
@@ -24,7 +22,6 @@ use Rattle.text.proofs.LineFieldLaws.{alone, number-uncut}
 use Rattle.text.specs.AnswerLines.{line_of_code}
 use Rattle.text.specs.declared.said.SaidLine.{SaidLine}
 use Rattle.text.specs.declared.said.SaidLine.TheVariants.{Unreadable}
-use Rattle.fields.specs.Places.{place_of}
 use Rattle.coder.specs.Written.{TextSays, WritesUncertaintySpeed}
 use Rattle.coder.specs.FieldTexts.{CodesText, coded, no_quantity, coordinate_field, CodesUnsigned}
 
@@ -37,7 +34,7 @@ unwritten f text h = no_quantity (λ t x e w. h x (subst (λ (s : List ℕ). Tex
 
 -- ---- coordinates
 
-pub coordinate-coded : (k : Coordinate) {text : List ℕ} {x : ℤ} (a : SaidCode) {r : SaidLine} → SaysSigned 64 text x → TellsCoordinate k (record { 0 = x }) a → r ≡ line_of_code a → CodesText (coordinate_field k) (fields_of text) r
+pub coordinate-coded : (k : Coordinate) {text : List ℕ} {x : ℤ} (a : Result SaidCode Refusal) {r : SaidLine} → SaysSigned 64 text x → TellsCoordinate k (record { 0 = x }) a → r ≡ line_of_code a → CodesText (coordinate_field k) (fields_of text) r
 coordinate-coded coordinate.Latitude {text} a s t p = coded (number-uncut text s.means) s t p
 coordinate-coded coordinate.Longitude {text} a s t p = coded (number-uncut text s.means) s t p
 
@@ -48,15 +45,15 @@ coordinate-uncoded coordinate.Longitude text h = unwritten field.longitude text 
 -- ---- what has no sign
 
 module _ (text : List ℕ) (h : (n : ℕ) → SaysUnsigned text n → ⊥) (d : IsAbsent text → ⊥) where
-  no-speed : (x : UncertaintySpeed) → WritesUncertaintySpeed text x → ⊥
-  no-speed (uncertain.Speed s) w = h s.0 w
-  no-speed uncertain.Missing w = d w
+  no-speed : (x : Option MetresPerHour) → WritesUncertaintySpeed text x → ⊥
+  no-speed (Some s) w = h s.0 w
+  no-speed None w = d w
 
-  no-confidence : (x : Confidence) → SaysConfidence text x → ⊥
-  no-confidence (confident.PerCent p) w = h p w
-  no-confidence confident.Missing w = d w
+  no-confidence : (x : Option PerCent) → SaysConfidence text x → ⊥
+  no-confidence (Some p) w = h p.0 w
+  no-confidence None w = d w
 
-pub unsigned-coded : (k : Unsigned) {text : List ℕ} {n : ℕ} (a : SaidCode) {r : SaidLine} → SaysUnsigned text n → TellsUnsigned k n a → r ≡ line_of_code a → CodesUnsigned k text r
+pub unsigned-coded : (k : Unsigned) {text : List ℕ} {n : ℕ} (a : Result SaidCode Refusal) {r : SaidLine} → SaysUnsigned text n → TellsUnsigned k n a → r ≡ line_of_code a → CodesUnsigned k text r
 unsigned-coded unsigned.Uncertainty {text} a s t p = coded (number-uncut text s.means) s t p
 unsigned-coded unsigned.AltitudeUncertainty {text} a s t p = coded (number-uncut text s.means) s t p
 unsigned-coded unsigned.InnerRadius {text} a s t p = coded (number-uncut text s.means) s t p
@@ -79,24 +76,3 @@ unsigned-uncoded unsigned.Bearing text h = unwritten field.bearing text (λ x s.
 unsigned-uncoded unsigned.HorizontalSpeed text h = unwritten field.horizontal_speed text (λ x s. h x.0 s)
 unsigned-uncoded unsigned.UncertaintySpeed text h = λ d. unwritten field.uncertainty_speed text (no-speed text h d)
 unsigned-uncoded unsigned.Confidence text h = λ d. unwritten field.confidence text (no-confidence text h d)
-
--- ---- a place that is no field's
-
-place-below : (f : Field) → place_of f < 14
-place-below field.latitude = omega arith
-place-below field.longitude = omega arith
-place-below field.uncertainty = omega arith
-place-below field.altitude_uncertainty = omega arith
-place-below field.altitude = omega arith
-place-below field.inner_radius = omega arith
-place-below field.offset = omega arith
-place-below field.included = omega arith
-place-below field.orientation = omega arith
-place-below field.bearing = omega arith
-place-below field.horizontal_speed = omega arith
-place-below field.vertical_speed = omega arith
-place-below field.uncertainty_speed = omega arith
-place-below field.confidence = omega arith
-
-pub past-fields : (n : ℕ) → Passed 14 n → (f : Field) → place_of f ≡ n → ⊥
-past-fields n p f e = omega (arith, passed 14 n p, place-below f)

@@ -10,7 +10,7 @@ use Rattle.fields.specs.Fields as field
 use Rattle.text.specs.LineFields.{fields_of}
 use Rattle.text.specs.declared.said.SaidLine.{SaidLine}
 use Rattle.text.specs.declared.said.SaidLine.TheVariants.{Unreadable}
-use Rattle.coder.specs.Names.{code_verb, report_verb, name_of, Placed}
+use Rattle.coder.specs.Names.{code_verb, report_verb, name_of}
 use Rattle.one_field.specs.Coding.{count_of}
 use Rattle.coder.specs.Written.{TextSays, WriteNumbers, none, more}
 use Rattle.coder.specs.FieldTexts as texts
@@ -55,6 +55,11 @@ too_few line h = unreadable (few-quantity h) (few-numbers h) refl
 pub alone-after : (line : List ℕ) {word t : List ℕ} {rest : List (List ℕ)} → fields_of line ≡ word ∷ rest → rest ≡ t ∷ [] → Answers line Unreadable
 alone-after line e f = too_few line (omega (arith, ap length e, ap length f))
 
+-- ---- a line with no verb
+
+pub no-verb : {line word : List ℕ} {rest : List (List ℕ)} → fields_of line ≡ word ∷ rest → (word ≡ code_verb → ⊥) → (word ≡ report_verb → ⊥) → Answers line Unreadable
+no-verb e a b = unreadable (λ f x s. let q = s.fields in a (cc)) (λ f zs s. let q = s.fields in b (cc)) refl
+
 -- ---- a line with a verb and a name
 
 module _ {line word name : List ℕ} {rest : List (List ℕ)} (e : fields_of line ≡ word ∷ name ∷ rest) where
@@ -76,14 +81,14 @@ module _ {line word name : List ℕ} {rest : List (List ℕ)} (e : fields_of lin
   reporting-rest : {f : Field} {zs : List ℤ} (s : SaysNumbers line f zs) → rest ≡ s.texts
   reporting-rest s = let q = s.fields in cc
 
-  pub no-verb : (word ≡ code_verb → ⊥) → (word ≡ report_verb → ⊥) → Answers line Unreadable
-  no-verb a b = unreadable (λ f x s. a (coding-word s)) (λ f zs s. b (reporting-word s)) refl
+  pub no-name : ((f : Field) → name ≡ name_of f → ⊥) → Answers line Unreadable
+  no-name h = unreadable (λ f x s. h f (coding-name s)) (λ f zs s. h f (reporting-name s)) refl
 
   module _ (v : word ≡ code_verb) where
     no-report : (f : Field) (zs : List ℤ) → SaysNumbers line f zs → ⊥
     no-report f zs s = verbs-apart (sym v ∙ reporting-word s)
 
-    code-field : (f : Field) → name ≡ name_of f → {r : SaidLine} → texts.CodesText f rest r → Answers line r
+    pub code-field : (f : Field) → name ≡ name_of f → {r : SaidLine} → texts.CodesText f rest r → Answers line r
     code-field f n (texts.coded {text = t} q w tells p) =
         let a : fields_of line ≡ code_verb ∷ name_of f ∷ t ∷ [] = cc in
         lines.coded {f = f} (record { text = t; fields = a; writes = w }) tells p
@@ -95,10 +100,6 @@ module _ {line word name : List ℕ} {rest : List (List ℕ)} (e : fields_of lin
             same : (k : Field) → ((t : List ℕ) (y : QuantityOf k) → rest ≡ t ∷ [] → TextSays k t y → ⊥) → g ≡ k → ⊥
             same k h e = subst (λ (j : Field). ((t : List ℕ) (y : QuantityOf j) → rest ≡ t ∷ [] → TextSays j t y → ⊥)) (sym e) h s.text x (coding-rest s) s.writes
 
-    pub code-line : {place : ℕ} {r : SaidLine} → Placed name place → texts.CodesAt place rest r → Answers line r
-    code-line p (texts.CodesAt.of_field {f = f} q c) = code-field f (p.named f q) c
-    code-line p (texts.CodesAt.no_field h q) = unreadable (λ f x s. h f (p.placed f (coding-name s))) no-report q
-
   module _ (v : word ≡ report_verb) where
     no-coding : (f : Field) (x : QuantityOf f) → SaysQuantity line f x → ⊥
     no-coding f x s = verbs-apart (sym (coding-word s) ∙ v)
@@ -106,7 +107,7 @@ module _ {line word name : List ℕ} {rest : List (List ℕ)} (e : fields_of lin
     says : (f : Field) → name ≡ name_of f → {zs : List ℤ} → WriteNumbers rest zs → length zs ≡ count_of f → SaysNumbers line f zs
     says f n w l = record { texts = rest; fields = cc; numbers = w; count = l }
 
-    report-field : (f : Field) → name ≡ name_of f → {r : SaidLine} → texts.ReportsText f rest r → Answers line r
+    pub report-field : (f : Field) → name ≡ name_of f → {r : SaidLine} → texts.ReportsText f rest r → Answers line r
     report-field f n (texts.reported {c = c} w tells p) = lines.reported {c = c} (says f n w (counted f c)) tells p
     report-field f n (texts.no_code w l h p) = lines.no_code (says f n w l) h p
     report-field f n {r} (texts.no_numbers h p) = unreadable no-coding other p
@@ -115,7 +116,3 @@ module _ {line word name : List ℕ} {rest : List (List ℕ)} (e : fields_of lin
         other g zs s =
             let q : count_of g ≡ count_of f = ap count_of (name-one g f (sym (reporting-name s) ∙ n)) in
             h zs (subst (λ (ts : List (List ℕ)). WriteNumbers ts zs) (sym (reporting-rest s)) s.numbers) (s.count ∙ q)
-
-    pub report-line : {place : ℕ} {r : SaidLine} → Placed name place → texts.ReportsAt place rest r → Answers line r
-    report-line p (texts.ReportsAt.of_field {f = f} q c) = report-field f (p.named f q) c
-    report-line p (texts.ReportsAt.no_field h q) = unreadable no-coding (λ f zs s. h f (p.placed f (reporting-name s))) q

@@ -3,6 +3,8 @@ use mathlib.Core.Path.{◌≡◌, sym, ap, ◌∙◌, subst}
 use mathlib.Core.List.{List}
 use Prim.Native.Nat.{ℕ}
 use lib.IntN.{ℤ}
+use Rattle.std.specs.Prelude.{Result}
+use Rattle.ground.specs.declared.refusals.Refusal.{Refusal}
 use Rattle.ground.specs.declared.said.SaidCode.{SaidCode}
 use Rattle.ground.specs.declared.said.SaidQuantity.{SaidQuantity}
 use Rattle.fields.specs.Fields.{Field, CodeOf, QuantityOf}
@@ -45,14 +47,14 @@ module _ {line : List ℕ} where
       texts-one s u = let p = s.fields in let q = u.fields in cc
 
   -- what is said of it
-  said-code : (f : Field) {x : QuantityOf f} {a : SaidCode} → SaysQuantity line f x → coding.TellsCode f x a → (g : Field) (y : QuantityOf g) (b : SaidCode) → SaysQuantity line g y → coding.TellsCode g y b → a ≡ b
+  said-code : (f : Field) {x : QuantityOf f} {a : Result SaidCode Refusal} → SaysQuantity line f x → coding.TellsCode f x a → (g : Field) (y : QuantityOf g) (b : Result SaidCode Refusal) → SaysQuantity line g y → coding.TellsCode g y b → a ≡ b
   said-code f {x} {a} s t g y b u v =
-      subst (λ (k : Field). ((z : QuantityOf k) (d : SaidCode) → SaysQuantity line k z → coding.TellsCode k z d → a ≡ d)) (sym (coding-field s u))
+      subst (λ (k : Field). ((z : QuantityOf k) (d : Result SaidCode Refusal) → SaysQuantity line k z → coding.TellsCode k z d → a ≡ d)) (sym (coding-field s u))
       (λ z d w h. tells-code-one f x a d t (subst (λ (q : QuantityOf f). coding.TellsCode f q d) (same-quantity s w) h)) y b u v
 
-  said-quantity : (f : Field) (c : CodeOf f) {a : SaidQuantity} → SaysNumbers line f (numbers_of f c) → reporting.TellsQuantity f c a → (g : Field) (d : CodeOf g) (b : SaidQuantity) → SaysNumbers line g (numbers_of g d) → reporting.TellsQuantity g d b → a ≡ b
+  said-quantity : (f : Field) (c : CodeOf f) {a : Result SaidQuantity Refusal} → SaysNumbers line f (numbers_of f c) → reporting.TellsQuantity f c a → (g : Field) (d : CodeOf g) (b : Result SaidQuantity Refusal) → SaysNumbers line g (numbers_of g d) → reporting.TellsQuantity g d b → a ≡ b
   said-quantity f c {a} s t g d b u v =
-      subst (λ (k : Field). ((z : CodeOf k) (q : SaidQuantity) → SaysNumbers line k (numbers_of k z) → reporting.TellsQuantity k z q → a ≡ q)) (sym (reporting-field s u))
+      subst (λ (k : Field). ((z : CodeOf k) (q : Result SaidQuantity Refusal) → SaysNumbers line k (numbers_of k z) → reporting.TellsQuantity k z q → a ≡ q)) (sym (reporting-field s u))
       (λ z q w h. tells-quantity-one f c a q t (subst (λ (j : CodeOf f). reporting.TellsQuantity f j q) (code_one f z c (sym (same_numbers s w))) h)) d b u v
 
   is_code : (f : Field) (c : CodeOf f) → SaysNumbers line f (numbers_of f c) → (g : Field) (zs : List ℤ) → SaysNumbers line g zs → ((d : CodeOf g) → numbers_of g d ≡ zs → ⊥) → ⊥

@@ -1,4 +1,5 @@
 -- One answer: texts write one quantity or none, one list of numbers or none, and numbers are one code or none.
+use Rattle.std.specs.Prelude.{Option, Some, None}
 use mathlib.Core.Path.{◌≡◌, refl, sym, ap, ◌∙◌, subst}
 use mathlib.Core.Bool.{Bool, true, false, cond}
 use mathlib.Core.List.{List, [], ◌∷◌}
@@ -7,11 +8,8 @@ use native.Mathlib.Omega.{arith}
 use lib.IntN.{ℤ, pos}
 use lib.Signed.{mag}
 use lib.ListN.{length}
-use Rattle.ground.specs.declared.quantity.UncertaintySpeed.{UncertaintySpeed}
-use Rattle.ground.specs.declared.quantity.UncertaintySpeed.TheVariants as uncertain
 use Rattle.fields.specs.Fields.{Field, CodeOf, QuantityOf}
 use Rattle.fields.specs.Fields as field
-use Rattle.fields.proofs.PlaceLaws.{place-one}
 use Rattle.one_field.specs.Coding as coding
 use Rattle.one_field.proofs.OneCode.{tells-code-one}
 use Rattle.one_field.specs.Reporting as reporting
@@ -20,18 +18,22 @@ use Rattle.text.proofs.WidthLaws.{means-one}
 use Rattle.text.proofs.SaysLaws.{signed-one, unsigned-one, unsigned-dash, confidence-one}
 use Rattle.text.specs.AnswerLines.{line_of_code, line_of_quantity}
 use Rattle.text.specs.declared.said.SaidLine.{SaidLine}
+use Rattle.text.specs.declared.said.SaidLine.TheVariants.{Unreadable}
 use Rattle.one_field.specs.Coding.{count_of}
+use Rattle.coder.specs.declared.names.Name.{Name}
+use Rattle.coder.specs.Names.{field_of}
 use Rattle.coder.specs.Written.{TextSays, WritesUncertaintySpeed, WriteNumbers, none, more, signed_numbers, numbers_of}
-use Rattle.coder.specs.FieldTexts.{CodesText, no_quantity, CodesAt, ReportsText, no_code, no_numbers, ReportsAt}
+use Rattle.coder.specs.FieldTexts.{CodesText, no_quantity, ReportsText, no_code, no_numbers}
 use Rattle.coder.specs.FieldTexts as texts
+use Rattle.ground.specs.declared.quantity.MetresPerHour.{MetresPerHour}
 
 -- ---- a text writes one quantity
 
-speed-one : (t : List ℕ) (x y : UncertaintySpeed) → WritesUncertaintySpeed t x → WritesUncertaintySpeed t y → x ≡ y
-speed-one t (uncertain.Speed x) (uncertain.Speed y) s u = λ i. uncertain.Speed (record { 0 = unsigned-one s u i })
-speed-one t (uncertain.Speed x) uncertain.Missing s u = absurd (unsigned-dash s u)
-speed-one t uncertain.Missing (uncertain.Speed y) s u = absurd (unsigned-dash u s)
-speed-one t uncertain.Missing uncertain.Missing s u = refl
+speed-one : (t : List ℕ) (x y : Option MetresPerHour) → WritesUncertaintySpeed t x → WritesUncertaintySpeed t y → x ≡ y
+speed-one t (Some x) (Some y) s u = λ i. Some (record { 0 = unsigned-one s u i })
+speed-one t (Some x) None s u = absurd (unsigned-dash s u)
+speed-one t None (Some y) s u = absurd (unsigned-dash u s)
+speed-one t None None s u = refl
 
 pub quantity-one : (f : Field) (t : List ℕ) (x y : QuantityOf f) → TextSays f t x → TextSays f t y → x ≡ y
 quantity-one field.latitude t x y s u = λ i. record { 0 = signed-one s u i }
@@ -107,7 +109,7 @@ counted field.confidence c = refl
 
 -- ---- what is said
 
-codes-one : (f : Field) {ts : List (List ℕ)} {a b : SaidLine} → CodesText f ts a → CodesText f ts b → a ≡ b
+pub codes-one : (f : Field) {ts : List (List ℕ)} {a b : SaidLine} → CodesText f ts a → CodesText f ts b → a ≡ b
 codes-one f (texts.coded {text = t} {x = x} {said = u} e w c p) (texts.coded {text = s} {x = y} {said = v} d i j q) =
     let same : s ≡ t = cc in
     let z : y ≡ x = quantity-one f t y x (subst (λ (k : List ℕ). TextSays f k y) same i) w in
@@ -116,14 +118,7 @@ codes-one f (texts.coded {text = t} {x = x} e w c p) (no_quantity h q) = absurd 
 codes-one f (no_quantity h p) (texts.coded {text = t} {x = x} e w c q) = absurd (h t x e w)
 codes-one f (no_quantity h p) (no_quantity i q) = p ∙ sym q
 
-pub codes-at-one : {place : ℕ} {ts : List (List ℕ)} {a b : SaidLine} → CodesAt place ts a → CodesAt place ts b → a ≡ b
-codes-at-one {ts = ts} {b = b} (texts.CodesAt.of_field {f = f} p c) (texts.CodesAt.of_field {f = g} q d) =
-    codes-one f c (subst (λ (k : Field). CodesText k ts b) (place-one g f (q ∙ sym p)) d)
-codes-at-one (texts.CodesAt.of_field {f = f} p c) (texts.CodesAt.no_field h q) = absurd (h f p)
-codes-at-one (texts.CodesAt.no_field h p) (texts.CodesAt.of_field {f = f} q c) = absurd (h f q)
-codes-at-one (texts.CodesAt.no_field h p) (texts.CodesAt.no_field i q) = p ∙ sym q
-
-reports-one : (f : Field) {ts : List (List ℕ)} {a b : SaidLine} → ReportsText f ts a → ReportsText f ts b → a ≡ b
+pub reports-one : (f : Field) {ts : List (List ℕ)} {a b : SaidLine} → ReportsText f ts a → ReportsText f ts b → a ≡ b
 reports-one f (texts.reported {c = c} {said = u} w t p) (texts.reported {c = d} {said = v} i s q) =
     p ∙ ap line_of_quantity (tells-quantity-one f c u v t (subst (λ (k : CodeOf f). reporting.TellsQuantity f k v) (code_one f d c (numbers-one i w)) s)) ∙ sym q
 reports-one f (texts.reported {c = c} w t p) (no_code i l h q) = absurd (h c (numbers-one w i))
@@ -135,9 +130,20 @@ reports-one f (no_numbers h p) (texts.reported {c = d} i s q) = absurd (h (numbe
 reports-one f (no_numbers h p) (no_code {zs = zs} i l k q) = absurd (h zs i l)
 reports-one f (no_numbers h p) (no_numbers i q) = p ∙ sym q
 
-pub reports-at-one : {place : ℕ} {ts : List (List ℕ)} {a b : SaidLine} → ReportsAt place ts a → ReportsAt place ts b → a ≡ b
-reports-at-one {ts = ts} {b = b} (texts.ReportsAt.of_field {f = f} p c) (texts.ReportsAt.of_field {f = g} q d) =
-    reports-one f c (subst (λ (k : Field). ReportsText k ts b) (place-one g f (q ∙ sym p)) d)
-reports-at-one (texts.ReportsAt.of_field {f = f} p c) (texts.ReportsAt.no_field h q) = absurd (h f p)
-reports-at-one (texts.ReportsAt.no_field h p) (texts.ReportsAt.of_field {f = f} q c) = absurd (h f q)
-reports-at-one (texts.ReportsAt.no_field h p) (texts.ReportsAt.no_field i q) = p ∙ sym q
+-- ---- of what a word names: its field's answer, or unreadable where it names none
+
+abbrev pub CodesAt : Option Name → List (List ℕ) → SaidLine → Type 0
+CodesAt (Some name) ts r = CodesText (field_of name) ts r
+CodesAt None ts r = r ≡ Unreadable
+
+abbrev pub ReportsAt : Option Name → List (List ℕ) → SaidLine → Type 0
+ReportsAt (Some name) ts r = ReportsText (field_of name) ts r
+ReportsAt None ts r = r ≡ Unreadable
+
+pub codes-at-one : (name : Option Name) (ts : List (List ℕ)) {a b : SaidLine} → CodesAt name ts a → CodesAt name ts b → a ≡ b
+codes-at-one (Some name) ts p q = codes-one (field_of name) p q
+codes-at-one None ts p q = p ∙ sym q
+
+pub reports-at-one : (name : Option Name) (ts : List (List ℕ)) {a b : SaidLine} → ReportsAt name ts a → ReportsAt name ts b → a ≡ b
+reports-at-one (Some name) ts p q = reports-one (field_of name) p q
+reports-at-one None ts p q = p ∙ sym q

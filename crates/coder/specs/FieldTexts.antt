@@ -1,5 +1,6 @@
 -- What is printed for the texts behind a field's name.
-use Rattle.std.specs.Prelude.{◌≡◌, List, [], ◌∷◌, ℕ, ℤ, length}
+use Rattle.std.specs.Prelude.{◌≡◌, List, [], ◌∷◌, ℕ, ℤ, length, min, pos, Result, None}
+use Rattle.ground.specs.declared.refusals.Refusal.{Refusal}
 use Rattle.ground.specs.declared.said.SaidCode.{SaidCode}
 use Rattle.ground.specs.declared.said.SaidQuantity.{SaidQuantity}
 use Rattle.fields.specs.Fields.{Field, CodeOf, QuantityOf}
@@ -16,11 +17,12 @@ use Rattle.one_field.specs.declared.reporting.Word.TheVariants as word
 use Rattle.one_field.specs.declared.reporting.Signed.{Signed}
 use Rattle.one_field.specs.declared.reporting.Signed.TheVariants as signed
 use Rattle.one_field.specs.Reporting as reporting
+use Rattle.text.specs.Numerals.{numeral_of}
+use Rattle.text.specs.Widths.{Means, IsBelow}
 use Rattle.text.specs.LineFields.{IsAbsent, fields_of}
 use Rattle.text.specs.AnswerLines.{line_of_code, line_of_quantity}
 use Rattle.text.specs.declared.said.SaidLine.{SaidLine}
 use Rattle.text.specs.declared.said.SaidLine.TheVariants.{Unreadable, Refused}
-use Rattle.fields.specs.Places.{place_of}
 use Rattle.one_field.specs.Coding.{count_of}
 use Rattle.coder.specs.Written.{TextSays, WriteNumbers, numbers_of}
 
@@ -28,26 +30,22 @@ use Rattle.coder.specs.Written.{TextSays, WriteNumbers, numbers_of}
 
 -- one text that writes a quantity, or unreadable
 pub data CodesText (f : Field) (texts : List (List ℕ)) (r : SaidLine) : Type 0 where
-  coded : {text : List ℕ} {x : QuantityOf f} {said : SaidCode} → texts ≡ text ∷ [] → TextSays f text x → coding.TellsCode f x said → r ≡ line_of_code said → CodesText f texts r
+  coded : {text : List ℕ} {x : QuantityOf f} {said : Result SaidCode Refusal} → texts ≡ text ∷ [] → TextSays f text x → coding.TellsCode f x said → r ≡ line_of_code said → CodesText f texts r
   no_quantity : ((text : List ℕ) (x : QuantityOf f) → texts ≡ text ∷ [] → TextSays f text x → ⊥) → r ≡ Unreadable → CodesText f texts r
-
--- of the field at that place
-pub data CodesAt (place : ℕ) (texts : List (List ℕ)) (r : SaidLine) : Type 0 where
-  of_field : {f : Field} → place_of f ≡ place → CodesText f texts r → CodesAt place texts r
-  no_field : ((f : Field) → place_of f ≡ place → ⊥) → r ≡ Unreadable → CodesAt place texts r
 
 -- ---- reporting
 
 -- numbers that are a code, numbers that are none, or unreadable
 pub data ReportsText (f : Field) (texts : List (List ℕ)) (r : SaidLine) : Type 0 where
-  reported : {c : CodeOf f} {said : SaidQuantity} → WriteNumbers texts (numbers_of f c) → reporting.TellsQuantity f c said → r ≡ line_of_quantity said → ReportsText f texts r
+  reported : {c : CodeOf f} {said : Result SaidQuantity Refusal} → WriteNumbers texts (numbers_of f c) → reporting.TellsQuantity f c said → r ≡ line_of_quantity said → ReportsText f texts r
   no_code : {zs : List ℤ} → WriteNumbers texts zs → length zs ≡ count_of f → ((c : CodeOf f) → numbers_of f c ≡ zs → ⊥) → r ≡ Refused 7 → ReportsText f texts r
   no_numbers : ((zs : List ℤ) → WriteNumbers texts zs → length zs ≡ count_of f → ⊥) → r ≡ Unreadable → ReportsText f texts r
 
--- of the field at that place
-pub data ReportsAt (place : ℕ) (texts : List (List ℕ)) (r : SaidLine) : Type 0 where
-  of_field : {f : Field} → place_of f ≡ place → ReportsText f texts r → ReportsAt place texts r
-  no_field : ((f : Field) → place_of f ≡ place → ⊥) → r ≡ Unreadable → ReportsAt place texts r
+-- a text that is no code of one number, or what a reporter says of the number, and of the largest of 32 bits for one that is larger
+pub data ReportsNumber (says : ℕ → Result SaidQuantity Refusal → Type 0) (text : List ℕ) (r : SaidLine) : Type 0 where
+  of_number : {n : ℕ} {said : Result SaidQuantity Refusal} → Means (numeral_of text) (pos n) → says (min n 4294967295) said → r ≡ line_of_quantity said → ReportsNumber says text r
+  below : IsBelow (numeral_of text) → r ≡ Refused 7 → ReportsNumber says text r
+  nothing : numeral_of text ≡ None → r ≡ Unreadable → ReportsNumber says text r
 
 -- ---- the fields of a sort together
 

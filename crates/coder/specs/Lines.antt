@@ -1,5 +1,6 @@
 -- THE LINES of the coder's input, `code NAME QUANTITY` and `report NAME CODE..`, and what is printed for them.
-use Rattle.std.specs.Prelude.{◌≡◌, List, [], ◌∷◌, ℕ, ℤ, length}
+use Rattle.std.specs.Prelude.{◌≡◌, List, [], ◌∷◌, ℕ, ℤ, length, Result}
+use Rattle.ground.specs.declared.refusals.Refusal.{Refusal}
 use Rattle.ground.specs.declared.said.SaidCode.{SaidCode}
 use Rattle.ground.specs.declared.said.SaidQuantity.{SaidQuantity}
 use Rattle.fields.specs.Fields.{Field, CodeOf, QuantityOf}
@@ -31,7 +32,7 @@ pub record SaysNumbers (line : List ℕ) (f : Field) (zs : List ℤ) : Type 0 wh
 -- What the field's coder tells of the quantity, or its reporter of the code, which may be a number that does not fit its field. Numbers that are
 -- no code, as a sign of 2 or a number below zero, are refused with 7. A line that says neither a quantity nor such numbers is unreadable.
 pub data Answers (line : List ℕ) (r : SaidLine) : Type 0 where
-  coded : {f : Field} {x : QuantityOf f} {said : SaidCode} → SaysQuantity line f x → coding.TellsCode f x said → r ≡ line_of_code said → Answers line r
-  reported : {f : Field} {c : CodeOf f} {said : SaidQuantity} → SaysNumbers line f (numbers_of f c) → reporting.TellsQuantity f c said → r ≡ line_of_quantity said → Answers line r
+  coded : {f : Field} {x : QuantityOf f} {said : Result SaidCode Refusal} → SaysQuantity line f x → coding.TellsCode f x said → r ≡ line_of_code said → Answers line r
+  reported : {f : Field} {c : CodeOf f} {said : Result SaidQuantity Refusal} → SaysNumbers line f (numbers_of f c) → reporting.TellsQuantity f c said → r ≡ line_of_quantity said → Answers line r
   no_code : {f : Field} {zs : List ℤ} → SaysNumbers line f zs → ((c : CodeOf f) → numbers_of f c ≡ zs → ⊥) → r ≡ Refused 7 → Answers line r
   unreadable : ((f : Field) (x : QuantityOf f) → SaysQuantity line f x → ⊥) → ((f : Field) (zs : List ℤ) → SaysNumbers line f zs → ⊥) → r ≡ Unreadable → Answers line r

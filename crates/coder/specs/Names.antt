@@ -1,8 +1,11 @@
 -- The words of the coder's lines, in octets.
-use Rattle.std.specs.Prelude.{◌≡◌, List, [], ◌∷◌, ℕ}
-use Rattle.fields.specs.Places.{place_of}
+use Rattle.std.specs.Prelude.{◌≡◌, List, [], ◌∷◌, ℕ, Option, Some, None}
 use Rattle.fields.specs.Fields.{Field}
 use Rattle.fields.specs.Fields as field
+use Rattle.coder.specs.declared.names.Verb.{Verb}
+use Rattle.coder.specs.declared.names.Verb.TheVariants.{Code, Report}
+use Rattle.coder.specs.declared.names.Name.{Name}
+use Rattle.coder.specs.declared.names.Name.TheVariants as name
 
 -- code
 unfoldable pub code_verb : List ℕ
@@ -45,19 +48,29 @@ name_of field.confidence = 99 ∷ 111 ∷ 110 ∷ 102 ∷ 105 ∷ 100 ∷ 101 �
 
 -- ---- what the code takes a word for
 
--- 0 for `code`, 1 for `report`, another number for neither
-pub record IsVerb (word : List ℕ) (verb : ℕ) : Type 0 where
-  pub code : verb ≡ 0 → word ≡ code_verb
-  pub coded : word ≡ code_verb → verb ≡ 0
-  pub report : verb ≡ 1 → word ≡ report_verb
-  pub reported : word ≡ report_verb → verb ≡ 1
+abbrev pub field_of : Name → Field
+field_of name.Latitude = field.latitude
+field_of name.Longitude = field.longitude
+field_of name.Uncertainty = field.uncertainty
+field_of name.AltitudeUncertainty = field.altitude_uncertainty
+field_of name.Altitude = field.altitude
+field_of name.InnerRadius = field.inner_radius
+field_of name.Offset = field.offset
+field_of name.Included = field.included
+field_of name.Orientation = field.orientation
+field_of name.Bearing = field.bearing
+field_of name.HorizontalSpeed = field.horizontal_speed
+field_of name.VerticalSpeed = field.vertical_speed
+field_of name.UncertaintySpeed = field.uncertainty_speed
+field_of name.Confidence = field.confidence
 
--- a field's place for its name, and no field's for no name
-pub record Placed (word : List ℕ) (place : ℕ) : Type 0 where
-  pub named : (f : Field) → place_of f ≡ place → word ≡ name_of f
-  pub placed : (f : Field) → word ≡ name_of f → place_of f ≡ place
+-- the verb that the word is, or neither
+abbrev pub IsVerb : List ℕ → Option Verb → Type 0
+IsVerb word (Some Code) = word ≡ code_verb
+IsVerb word (Some Report) = word ≡ report_verb
+IsVerb word None = (word ≡ code_verb → ⊥) × (word ≡ report_verb → ⊥)
 
--- that place for that name, and 14 for another
-pub data PlacedIf (word name : List ℕ) (place r : ℕ) : Type 0 where
-  is : word ≡ name → r ≡ place → PlacedIf word name place r
-  other : (word ≡ name → ⊥) → r ≡ 14 → PlacedIf word name place r
+-- the name that the word is, or none
+abbrev pub IsName : List ℕ → Option Name → Type 0
+IsName word (Some n) = word ≡ name_of (field_of n)
+IsName word None = (f : Field) → word ≡ name_of f → ⊥

@@ -1,19 +1,18 @@
 -- What the texts behind a name write: a quantity, or the numbers of a code.
-use Rattle.std.specs.Prelude.{Bool, cond, List, [], ◌∷◌, ℕ, ℤ, pos}
-use Rattle.ground.specs.declared.quantity.UncertaintySpeed.{UncertaintySpeed}
-use Rattle.ground.specs.declared.quantity.UncertaintySpeed.TheVariants as uncertain
+use Rattle.std.specs.Prelude.{Bool, cond, List, [], ◌∷◌, ℕ, ℤ, pos, Option, Some, None}
 use Rattle.fields.specs.Fields.{Field, CodeOf, QuantityOf}
 use Rattle.fields.specs.Fields as field
 use Rattle.text.specs.Numerals.{numeral_of}
 use Rattle.text.specs.Widths.{Means}
 use Rattle.text.specs.LineFields.{IsAbsent, SaysSigned, SaysUnsigned, SaysConfidence}
+use Rattle.ground.specs.declared.quantity.MetresPerHour.{MetresPerHour}
 
 -- ---- a quantity
 
 -- `-` is a missing quantity
-abbrev pub WritesUncertaintySpeed : List ℕ → UncertaintySpeed → Type 0
-WritesUncertaintySpeed text (uncertain.Speed s) = SaysUnsigned text s.0
-WritesUncertaintySpeed text uncertain.Missing = IsAbsent text
+abbrev pub WritesUncertaintySpeed : List ℕ → Option MetresPerHour → Type 0
+WritesUncertaintySpeed text (Some s) = SaysUnsigned text s.0
+WritesUncertaintySpeed text None = IsAbsent text
 
 -- the text writes the quantity, which fits the width in which it arrives: coordinates signed in 64 bits, altitude and vertical
 -- speed signed in 32, the others unsigned in 32

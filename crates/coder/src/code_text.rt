@@ -1,39 +1,40 @@
 // A quantity's code. A quantity that does not fit the width in which it arrives makes its line unreadable.
 ghost use Rattle.fields.specs.Fields.{altitude, vertical_speed, uncertainty_speed, confidence};
 ghost use Rattle.text.specs.LineFields.{fields_of};
-ghost use Rattle.coder.specs.FieldTexts.{CodesAt, CodesText, CodesUnsigned, coordinate_field};
+ghost use Rattle.coder.specs.Names.{field_of};
+ghost use Rattle.coder.specs.FieldTexts.{CodesText, CodesUnsigned, coordinate_field};
 
+use crate::names::Name;
 use ground::{Nanodegrees, SignedMetresPerHour, SignedMillimetres};
 use one_field::{Coordinate, Markable, Unsigned};
-use text::{SaidLine, Signed32, Signed64, Unsigned32};
+use text::SaidLine;
 
-// The code for the name at that place. More than one text is no number: there is a space in it.
-pub fn coded(place: usize, text: &[u8]) -> SaidLine
-    ensures { CodesAt place (fields_of text.now) result }
+// The code for that name. More than one text is no number: there is a space in it.
+pub fn coded(name: Name, text: &[u8]) -> SaidLine
+    ensures { CodesText (field_of name) (fields_of text.now) result }
 {
-    match place {
-        0 => coordinate(Coordinate::Latitude, text),
-        1 => coordinate(Coordinate::Longitude, text),
-        2 => unsigned(Unsigned::Uncertainty, text),
-        3 => unsigned(Unsigned::AltitudeUncertainty, text),
-        4 => altitude(text),
-        5 => unsigned(Unsigned::InnerRadius, text),
-        6 => unsigned(Unsigned::Offset, text),
-        7 => unsigned(Unsigned::Included, text),
-        8 => unsigned(Unsigned::Orientation, text),
-        9 => unsigned(Unsigned::Bearing, text),
-        10 => unsigned(Unsigned::HorizontalSpeed, text),
-        11 => vertical_speed(text),
-        12 => uncertainty_speed(text),
-        13 => confidence(text),
-        _ => SaidLine::Unreadable,
+    match name {
+        Name::Latitude => coordinate(Coordinate::Latitude, text),
+        Name::Longitude => coordinate(Coordinate::Longitude, text),
+        Name::Uncertainty => unsigned(Unsigned::Uncertainty, text),
+        Name::AltitudeUncertainty => unsigned(Unsigned::AltitudeUncertainty, text),
+        Name::Altitude => altitude(text),
+        Name::InnerRadius => unsigned(Unsigned::InnerRadius, text),
+        Name::Offset => unsigned(Unsigned::Offset, text),
+        Name::Included => unsigned(Unsigned::Included, text),
+        Name::Orientation => unsigned(Unsigned::Orientation, text),
+        Name::Bearing => unsigned(Unsigned::Bearing, text),
+        Name::HorizontalSpeed => unsigned(Unsigned::HorizontalSpeed, text),
+        Name::VerticalSpeed => vertical_speed(text),
+        Name::UncertaintySpeed => uncertainty_speed(text),
+        Name::Confidence => confidence(text),
     }
 }
 
 fn coordinate(field: Coordinate, text: &[u8]) -> SaidLine
     ensures { CodesText (coordinate_field field) (fields_of text.now) result }
 {
-    let Signed64::Number(x) = text::signed_64(text::number_in(text)) else {
+    let Some(x) = text::signed_64(text::number_in(text)) else {
         return SaidLine::Unreadable;
     };
     text::line_of_code(one_field::coded_coordinate(field, Nanodegrees(x)))
@@ -42,7 +43,7 @@ fn coordinate(field: Coordinate, text: &[u8]) -> SaidLine
 fn unsigned(field: Unsigned, text: &[u8]) -> SaidLine
     ensures { CodesUnsigned field text.now result }
 {
-    let Unsigned32::Number(x) = text::unsigned_32(text::number_in(text)) else {
+    let Some(x) = text::unsigned_32(text::number_in(text)) else {
         return SaidLine::Unreadable;
     };
     text::line_of_code(one_field::coded_unsigned(field, x))
@@ -70,7 +71,7 @@ fn confidence(text: &[u8]) -> SaidLine
 fn altitude(text: &[u8]) -> SaidLine
     ensures { CodesText altitude (fields_of text.now) result }
 {
-    let Signed32::Number(x) = text::signed_32(text::number_in(text)) else {
+    let Some(x) = text::signed_32(text::number_in(text)) else {
         return SaidLine::Unreadable;
     };
     text::line_of_code(one_field::coded_altitude(SignedMillimetres(x)))
@@ -79,7 +80,7 @@ fn altitude(text: &[u8]) -> SaidLine
 fn vertical_speed(text: &[u8]) -> SaidLine
     ensures { CodesText vertical_speed (fields_of text.now) result }
 {
-    let Signed32::Number(x) = text::signed_32(text::number_in(text)) else {
+    let Some(x) = text::signed_32(text::number_in(text)) else {
         return SaidLine::Unreadable;
     };
     text::line_of_code(one_field::coded_vertical_speed(SignedMetresPerHour(x)))

@@ -43,7 +43,7 @@ fn answer_lines(rt: &HostRuntime, out: &mut [u8; 65536], block: &mut [u8; 65536]
     let input = streaming::no_input();
     let output = streaming::no_output();
     let mut run = Run { input, output };
-    while run.output.answered < MOST_LINES {
+    for _ in 0..MOST_LINES {
         let next = streaming::next_line(rt, out, block, run);
         let input = next.input;
         if !input.ready {
@@ -79,9 +79,8 @@ fn answer_line(
 }
 
 // What is said for the line that is held.
-fn said(block: &[u8], input: Input) -> SaidLine
-    requires block_len { length block.now ≡ 65536 }
-    requires sound_input { SoundInput input }
+fn said(block: &[u8; 65536], input: Input) -> SaidLine
+    requires { SoundInput input }
     ensures { (line : List ℕ) → Line block.now input line → Prints line result }
 {
     if input.long {

@@ -3,55 +3,58 @@ ghost use Rattle.std.specs.Prelude.{◌≡◌, List, ◌∷◌, ℕ, min, pos};
 ghost use Rattle.fields.specs.Fields.{longitude};
 ghost use Rattle.text.specs.LineFields.{fields_of};
 ghost use Rattle.text.specs.Numerals.{numeral_of};
+ghost use Rattle.text.specs.declared.said.SaidLine.TheVariants.{Refused};
 ghost use Rattle.text.specs.Widths.{AsSize, Means};
-ghost use Rattle.coder.specs.FieldTexts.{ReportsAt, ReportsText, byte_field, word_field, signed_field};
+ghost use Rattle.coder.specs.Names.{field_of};
+ghost use Rattle.coder.specs.FieldTexts.{ReportsText, ReportsNumber, byte_field, word_field, signed_field};
 
-use ground::LongitudeCode;
+use crate::names::Name;
+use ground::{LongitudeCode, Refusal, SaidQuantity};
 use one_field::{Byte, Signed, Word};
-use text::{Numeral, SaidLine, Signed32, Size};
+use text::{SaidLine, Size};
 
-// Document 01's number for what is no code of the field.
-const NO_CODE: u64 = 7;
-
-// The quantity for the name at that place.
-pub fn reported(place: usize, texts: &[u8]) -> SaidLine
-    ensures { ReportsAt place (fields_of texts.now) result }
+// The quantity for that name.
+pub fn reported(name: Name, texts: &[u8]) -> SaidLine
+    ensures { ReportsText (field_of name) (fields_of texts.now) result }
 {
-    match place {
-        0 => signed(Signed::Latitude, texts),
-        1 => longitude(texts),
-        2 => byte(Byte::Uncertainty, texts),
-        3 => byte(Byte::AltitudeUncertainty, texts),
-        4 => signed(Signed::Altitude, texts),
-        5 => word(Word::InnerRadius, texts),
-        6 => byte(Byte::Offset, texts),
-        7 => byte(Byte::Included, texts),
-        8 => byte(Byte::Orientation, texts),
-        9 => word(Word::Bearing, texts),
-        10 => word(Word::HorizontalSpeed, texts),
-        11 => signed(Signed::VerticalSpeed, texts),
-        12 => byte(Byte::UncertaintySpeed, texts),
-        13 => byte(Byte::Confidence, texts),
-        _ => SaidLine::Unreadable,
+    match name {
+        Name::Latitude => signed(Signed::Latitude, texts),
+        Name::Longitude => longitude(texts),
+        Name::Uncertainty => byte(Byte::Uncertainty, texts),
+        Name::AltitudeUncertainty => byte(Byte::AltitudeUncertainty, texts),
+        Name::Altitude => signed(Signed::Altitude, texts),
+        Name::InnerRadius => word(Word::InnerRadius, texts),
+        Name::Offset => byte(Byte::Offset, texts),
+        Name::Included => byte(Byte::Included, texts),
+        Name::Orientation => byte(Byte::Orientation, texts),
+        Name::Bearing => word(Word::Bearing, texts),
+        Name::HorizontalSpeed => word(Word::HorizontalSpeed, texts),
+        Name::VerticalSpeed => signed(Signed::VerticalSpeed, texts),
+        Name::UncertaintySpeed => byte(Byte::UncertaintySpeed, texts),
+        Name::Confidence => byte(Byte::Confidence, texts),
     }
 }
 
 fn byte(field: Byte, text: &[u8]) -> SaidLine
     ensures { ReportsText (byte_field field) (fields_of text.now) result }
 {
-    match text::size_of(text::number_in(text)) {
-        Size::Code(n) => text::line_of_quantity(one_field::reported_byte(field, capped(n))),
-        Size::Below => SaidLine::Refused(NO_CODE),
-        Size::Nothing => SaidLine::Unreadable,
-    }
+    number(text, |n| one_field::reported_byte(field, n))
 }
 
 fn word(field: Word, text: &[u8]) -> SaidLine
     ensures { ReportsText (word_field field) (fields_of text.now) result }
 {
+    number(text, |n| one_field::reported_word(field, n))
+}
+
+// A code of one number without a sign.
+fn number<F: FnOnce(u32) -> Result<SaidQuantity, Refusal>>(text: &[u8], report: F) -> SaidLine
+    requires { F.IsAlwaysCallable report }
+    ensures { ReportsNumber (F.post report) text.now result }
+{
     match text::size_of(text::number_in(text)) {
-        Size::Code(n) => text::line_of_quantity(one_field::reported_word(field, capped(n))),
-        Size::Below => SaidLine::Refused(NO_CODE),
+        Size::Code(n) => text::line_of_quantity(report(capped(n))),
+        Size::Below => no_code(),
         Size::Nothing => SaidLine::Unreadable,
     }
 }
@@ -59,16 +62,13 @@ fn word(field: Word, text: &[u8]) -> SaidLine
 fn longitude(text: &[u8]) -> SaidLine
     ensures { ReportsText longitude (fields_of text.now) result }
 {
-    let n = text::number_in(text);
-    match n {
-        Numeral::Number(_) => {
-            let Signed32::Number(x) = text::signed_32(n) else {
-                return SaidLine::Refused(NO_CODE);
-            };
-            text::line_of_quantity(one_field::reported_longitude(LongitudeCode(x)))
-        }
-        Numeral::Nothing => SaidLine::Unreadable,
-    }
+    let Some(number) = text::number_in(text) else {
+        return SaidLine::Unreadable;
+    };
+    let Some(x) = text::signed_32(Some(number)) else {
+        return no_code();
+    };
+    text::line_of_quantity(one_field::reported_longitude(LongitudeCode(x)))
 }
 
 // A code of two numbers, the first of them 0 or 1.
@@ -79,9 +79,12 @@ fn signed(field: Signed, texts: &[u8]) -> SaidLine
     if end == texts.len() {
         return SaidLine::Unreadable;
     }
-    let from = end + 1;
-    let sign = text::size_of(text::number_in(&texts[0..end]));
-    with_sign(field, sign, text::size_of(text::number_in(&texts[from..])))
+    let sign = text::size_of(text::number_in(&texts[..end]));
+    with_sign(
+        field,
+        sign,
+        text::size_of(text::number_in(&texts[end + 1..])),
+    )
 }
 
 // What is no number comes first: it makes the line unreadable.
@@ -92,12 +95,12 @@ fn with_sign(field: Signed, sign: Size, size: Size) -> SaidLine
         Size::Nothing => SaidLine::Unreadable,
         Size::Below => match size {
             Size::Nothing => SaidLine::Unreadable,
-            Size::Below => SaidLine::Refused(NO_CODE),
-            Size::Code(_) => SaidLine::Refused(NO_CODE),
+            Size::Below => no_code(),
+            Size::Code(_) => no_code(),
         },
         Size::Code(s) => match size {
             Size::Nothing => SaidLine::Unreadable,
-            Size::Below => SaidLine::Refused(NO_CODE),
+            Size::Below => no_code(),
             Size::Code(n) => with_bit(field, s, n),
         },
     }
@@ -108,7 +111,7 @@ fn with_bit(field: Signed, sign: u64, n: u64) -> SaidLine
     ensures { (first rest : List ℕ) → Means (numeral_of first) (pos sign) → Means (numeral_of rest) (pos n) → ReportsText (signed_field field) (first ∷ fields_of rest) result }
 {
     if 1 < sign {
-        return SaidLine::Refused(NO_CODE);
+        return no_code();
     }
     text::line_of_quantity(one_field::reported_signed(field, sign == 1, capped(n)))
 }
@@ -117,8 +120,12 @@ fn with_bit(field: Signed, sign: u64, n: u64) -> SaidLine
 fn capped(n: u64) -> u32
     ensures { result ≡ min n 4294967295 }
 {
-    if 4294967295 < n {
-        return 4294967295;
-    }
-    n as u32
+    u32::try_from(n).unwrap_or(u32::MAX)
+}
+
+// The answer to what is no code of the field.
+fn no_code() -> SaidLine
+    ensures { result ≡ Refused 7 }
+{
+    SaidLine::Refused(u64::from(Refusal::OutOfRange))
 }

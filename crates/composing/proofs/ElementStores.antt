@@ -50,6 +50,10 @@ module _ (elements : List ℕ) where
     pub count_small : (element_at elements 1 ≡ value_in elements count) × (value_in elements count < 16)
     count_small = (same-element elements 1 (omega arith), number elements fields count)
 
+    -- the length of the message
+    pub message_long : {k : Kind} {n : ℕ} → k ≡ array_kind elements → n ≡ length_of (shape_rows k (element_at elements 1)) → n ≡ length_of (array_rows elements)
+    message_long e f = f ∙ (λ i. length_of (shape_rows (e i) (count_small.0 i)))
+
     -- ---- in a room
 
     module _ (room : ℕ) (fits : length_of (array_rows elements) ≤ room) where

@@ -1,10 +1,10 @@
 -- The octets that the parts of the writer store.
-use Rattle.std.specs.Prelude.{List, [], ◌∷◌, ◌++◌, ℕ, zero, suc, ◌≤◌, ◌<◌, get_or, drop}
+use Rattle.std.specs.Prelude.{List, [], ◌∷◌, ◌++◌, ℕ, zero, suc, ◌≤◌, ◌<◌, get_or, drop, Result}
 use Rattle.ground.specs.declared.code.LatitudeCode.{LatitudeCode}
 use Rattle.ground.specs.declared.code.LongitudeCode.{LongitudeCode}
+use Rattle.ground.specs.declared.refusals.Refusal.{Refusal}
 use Rattle.octets.specs.Bits.{octets}
 use Rattle.octets.specs.Codes.{position, level}
-use Rattle.layout.specs.declared.Written.{Written}
 use Rattle.layout.specs.declared.shape.Kind.{Kind}
 use Rattle.layout.specs.declared.shape.Kind.TheVariants.{Nothing, Point, Circle, Ellipse, Polygon, AltitudePoint, AltitudeEllipsoid, Arc}
 use Rattle.layout.specs.declared.shape.Shape.{Shape}
@@ -15,7 +15,7 @@ use Rattle.layout.specs.Shapes.{rows_of, value_of, zero_latitude, zero_longitude
 use Rattle.code_arrays.specs.Shapes.{array_rows, value_in}
 
 -- the record that elements say is written
-abbrev pub WritesElements : List ℕ → List ℕ → List ℕ → Written → Type 0
+abbrev pub WritesElements : List ℕ → List ℕ → List ℕ → Result ℕ Refusal → Type 0
 WritesElements elements = Writes (array_rows elements) (value_in elements)
 
 -- the octets of the first n of these points

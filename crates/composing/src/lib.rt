@@ -9,26 +9,21 @@ ghost use Rattle.code_arrays.specs.Shapes.{array_kind, array_rows, value_in};
 ghost use Rattle.judging.specs.Judging.{RecordAnswer};
 ghost use Rattle.composing.specs.Composing.{WritesElements};
 
-use ground::{Outcome, Refusal};
-use layout::{Kind, Written};
+use ground::Refusal;
+use layout::Kind;
 
 // Writes the message into the first octets of the buffer, or refuses the record and leaves the buffer as it is.
-pub fn write(out: &mut [u8], codes: &[u32]) -> Written
+pub fn write(out: &mut [u8], codes: &[u32]) -> Result<usize, Refusal>
     requires { 61 ≤ length codes.now }
     ensures { WritesElements codes.now out.old out.new result }
 {
     let kind = code_arrays::kind_in(codes);
-    match judging::outcome(codes, kind) {
-        Outcome::Done => write_taken(out, codes, kind),
-        Outcome::Refused(why) => Written {
-            outcome: Outcome::Refused(why),
-            length: 0,
-        },
-    }
+    judging::outcome(codes, kind)?;
+    write_taken(out, codes, kind)
 }
 
 // 10, of a record that is taken.
-fn write_taken(out: &mut [u8], codes: &[u32], kind: Kind) -> Written
+fn write_taken(out: &mut [u8], codes: &[u32], kind: Kind) -> Result<usize, Refusal>
     requires in_bounds { 61 ≤ length codes.now }
     requires kind_value { kind ≡ array_kind codes.now }
     requires record_answer { RecordAnswer (array_rows codes.now) (value_in codes.now) 0 }
@@ -36,14 +31,8 @@ fn write_taken(out: &mut [u8], codes: &[u32], kind: Kind) -> Written
 {
     let length = layout::message_length(kind, codes[1] as u8);
     if out.len() < length {
-        return Written {
-            outcome: Outcome::Refused(Refusal::BufferTooShort),
-            length: 0,
-        };
+        return Err(Refusal::BufferTooShort);
     }
     message::store_shape(out, codes, kind);
-    Written {
-        outcome: Outcome::Done,
-        length,
-    }
+    Ok(length)
 }

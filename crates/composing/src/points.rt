@@ -17,12 +17,10 @@ pub fn store_points(out: &mut [u8], codes: &[u32])
     ensures { out.new ≡ sets out.old 1 (positions (record_in codes.now).latitudes (record_in codes.now).longitudes (value_in codes.now count)) }
 {
     let end = codes[1] as usize;
-    let mut i = 0;
-    while i < end {
+    for i in 0..end {
         let at = 16 + 3 * i;
         let latitude = LatitudeCode(codes[at] == 1, codes[at + 1]);
         let longitude = code_arrays::longitude_of(codes[at + 2]);
         octets::put_position(out, 1 + 6 * i, latitude, longitude);
-        i += 1;
     }
 }

@@ -3,47 +3,25 @@
 
 ghost use Rattle.confidences.specs.Confidences.{CodedConfidence, ReportedConfidence};
 
-use ground::{Confidence, ConfidenceCode, Refusal};
-
-#[derive(Clone, Copy)]
-pub enum ConfidenceCoded {
-    Code(ConfidenceCode),
-    Refused(Refusal),
-}
-
-#[derive(Clone, Copy)]
-pub enum ConfidenceReported {
-    Confidence(Confidence),
-    Refused(Refusal),
-}
+use ground::{ConfidenceCode, PerCent, Refusal};
 
 // A missing one is code 0: 0 per cent can't be asked.
-pub fn confidence_code(confidence: Confidence) -> ConfidenceCoded
+pub fn confidence_code(confidence: Option<PerCent>) -> Result<ConfidenceCode, Refusal>
     ensures { CodedConfidence confidence result }
 {
     match confidence {
-        Confidence::PerCent(p) => {
-            if p == 0 {
-                return ConfidenceCoded::Refused(Refusal::OutOfRange);
-            }
-            if 100 < p {
-                return ConfidenceCoded::Refused(Refusal::OutOfRange);
-            }
-            ConfidenceCoded::Code(ConfidenceCode(p as u8))
-        }
-        Confidence::Missing => ConfidenceCoded::Code(ConfidenceCode(0)),
+        None => Ok(ConfidenceCode(0)),
+        Some(PerCent(p @ 1..=100)) => Ok(ConfidenceCode(p as u8)),
+        Some(_) => Err(Refusal::OutOfRange),
     }
 }
 
-pub fn reported_confidence(code: ConfidenceCode) -> ConfidenceReported
+pub fn reported_confidence(code: ConfidenceCode) -> Result<Option<PerCent>, Refusal>
     ensures { ReportedConfidence code result }
 {
-    let n = code.0;
-    if n == 0 {
-        return ConfidenceReported::Confidence(Confidence::Missing);
+    match code.0 {
+        0 => Ok(None),
+        n @ 1..=100 => Ok(Some(PerCent(u32::from(n)))),
+        _ => Err(Refusal::ConfidenceTooLarge),
     }
-    if 100 < n {
-        return ConfidenceReported::Refused(Refusal::ConfidenceTooLarge);
-    }
-    ConfidenceReported::Confidence(Confidence::PerCent(n as u32))
 }

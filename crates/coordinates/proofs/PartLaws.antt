@@ -6,7 +6,7 @@ use Prim.Native.Nat.{ℕ, zero, suc, ◌+◌, ◌*◌, ◌-◌, ◌≤◌, ◌<�
 use native.Mathlib.Nat.{zero-mul}
 use native.Mathlib.Omega.{arith}
 use lib.Dec.{ltb, leb→le, ltb→lt, le→leb, lt→ltb}
-use lib.IntN.{ℤ, pos, negsuc, neg_ℤ, nat_abs, sub_ℕ, ◌+ℤ◌, ◌*ℤ◌}
+use lib.IntN.{ℤ, pos, negsuc, neg_ℤ, sub_ℕ, ◌+ℤ◌, ◌*ℤ◌}
 use lib.Signed.{◌≤ℤ◌, ◌<ℤ◌}
 use Rattle.coordinates.specs.Halves.{up, down}
 use borrow.Author.Tests.{ltb-true, ltb-false}
@@ -55,7 +55,3 @@ parts-lt (pos a) (pos b) h = record { lt = lt→ltb a b (omega arith) }
 parts-lt (pos a) (negsuc b) h = absurd (omega arith)
 parts-lt (negsuc a) (pos b) h = record { lt = tt }
 parts-lt (negsuc a) (negsuc b) h = record { lt = lt→ltb b a (omega arith) }
-
-pub abs-parts : (a : ℤ) → up a + down a ≡ nat_abs a
-abs-parts (pos n) = omega arith
-abs-parts (negsuc n) = omega arith

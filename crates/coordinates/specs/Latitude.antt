@@ -1,13 +1,10 @@
 -- Latitude codes: a sign, and N of 23 bits.
-use Rattle.std.specs.Prelude.{ℕ, ◌+◌, ◌*◌, ◌^◌, ◌≤◌, ◌<◌, ℤ, nat_abs}
-use Rattle.ground.specs.Answers.{number_of, Said, done, refused, Answer}
+use Rattle.std.specs.Prelude.{ℕ, ◌+◌, ◌*◌, ◌^◌, ◌≤◌, ◌<◌, ℤ, nat_abs, Result}
+use Rattle.ground.specs.Answers.{Said, Answer, said_of}
 use Rattle.ground.specs.Sets.{OfSign, NearestOf}
 use Rattle.ground.specs.declared.quantity.Nanodegrees.{Nanodegrees}
 use Rattle.ground.specs.declared.code.LatitudeCode.{LatitudeCode}
-use Rattle.coordinates.specs.declared.latitudes.LatitudeCoded.{LatitudeCoded}
-use Rattle.coordinates.specs.declared.latitudes.LatitudeCoded.TheVariants as coded
-use Rattle.coordinates.specs.declared.CoordinateReported.{CoordinateReported}
-use Rattle.coordinates.specs.declared.CoordinateReported.TheVariants as reported
+use Rattle.ground.specs.declared.refusals.Refusal.{Refusal}
 
 -- N of w bits: N ≤ 2^w·a / 90 degrees < N + 1, and for N = 2^w - 1 also 90 degrees. A degree is `degree` of the units of a.
 pub record LatitudeStep (w degree N a : ℕ) : Type 0 where
@@ -30,16 +27,8 @@ LatitudeReporting c = Answer (λ x. NearestOf (LatitudeSet c) x.0) 7 (8388608 �
 
 -- ---- what the functions answer
 
-abbrev pub said_latitude : LatitudeCoded → Said LatitudeCode
-said_latitude (coded.Code c) = done c
-said_latitude (coded.Refused why) = refused (number_of why)
+abbrev pub CodedLatitude : Nanodegrees → Result LatitudeCode Refusal → Type 0
+CodedLatitude x r = LatitudeCoding x (said_of r)
 
-abbrev pub said_coordinate : CoordinateReported → Said Nanodegrees
-said_coordinate (reported.Coordinate x) = done x
-said_coordinate (reported.Refused why) = refused (number_of why)
-
-abbrev pub CodedLatitude : Nanodegrees → LatitudeCoded → Type 0
-CodedLatitude x r = LatitudeCoding x (said_latitude r)
-
-abbrev pub ReportedLatitude : LatitudeCode → CoordinateReported → Type 0
-ReportedLatitude c r = LatitudeReporting c (said_coordinate r)
+abbrev pub ReportedLatitude : LatitudeCode → Result Nanodegrees Refusal → Type 0
+ReportedLatitude c r = LatitudeReporting c (said_of r)

@@ -1,14 +1,11 @@
 -- Longitude codes: N, signed, of 24 bits.
-use Rattle.std.specs.Prelude.{cond, ℕ, ◌*◌, ◌^◌, ◌≤◌, ◌<◌, eqb, ℤ, pos, negsuc, nat_abs, ◌+ℤ◌, ◌*ℤ◌, ◌≤ℤ◌, ◌<ℤ◌}
+use Rattle.std.specs.Prelude.{cond, ℕ, ◌*◌, ◌^◌, ◌≤◌, ◌<◌, eqb, ℤ, pos, negsuc, nat_abs, ◌+ℤ◌, ◌*ℤ◌, ◌≤ℤ◌, ◌<ℤ◌, Result}
 use Rattle.std.specs.Int.Signed.{mag}
-use Rattle.ground.specs.Answers.{number_of, Said, done, refused, Answer}
+use Rattle.ground.specs.Answers.{Said, Answer, said_of}
 use Rattle.ground.specs.Sets.{LowestOf}
 use Rattle.ground.specs.declared.quantity.Nanodegrees.{Nanodegrees}
 use Rattle.ground.specs.declared.code.LongitudeCode.{LongitudeCode}
-use Rattle.coordinates.specs.declared.longitudes.LongitudeCoded.{LongitudeCoded}
-use Rattle.coordinates.specs.declared.longitudes.LongitudeCoded.TheVariants.{Code, Refused}
-use Rattle.coordinates.specs.declared.CoordinateReported.{CoordinateReported}
-use Rattle.coordinates.specs.Latitude.{said_coordinate}
+use Rattle.ground.specs.declared.refusals.Refusal.{Refusal}
 
 -- N ≤ 2^w·y / 360 degrees < N + 1. A degree is `degree` of the units of y.
 pub record TurnStep (w degree : ℕ) (N y : ℤ) : Type 0 where
@@ -35,12 +32,8 @@ LongitudeReporting c = Answer (λ x. LowestOf (LongitudeSet c.0) x.0) 7 (8388608
 
 -- ---- what the functions answer
 
-abbrev pub said_longitude : LongitudeCoded → Said LongitudeCode
-said_longitude (Code c) = done c
-said_longitude (Refused why) = refused (number_of why)
+abbrev pub CodedLongitude : Nanodegrees → Result LongitudeCode Refusal → Type 0
+CodedLongitude x r = LongitudeCoding x (said_of r)
 
-abbrev pub CodedLongitude : Nanodegrees → LongitudeCoded → Type 0
-CodedLongitude x r = LongitudeCoding x (said_longitude r)
-
-abbrev pub ReportedLongitude : LongitudeCode → CoordinateReported → Type 0
-ReportedLongitude c r = LongitudeReporting c (said_coordinate r)
+abbrev pub ReportedLongitude : LongitudeCode → Result Nanodegrees Refusal → Type 0
+ReportedLongitude c r = LongitudeReporting c (said_of r)

@@ -4,13 +4,5 @@
 mod latitudes;
 mod longitudes;
 
-use ground::{Nanodegrees, Refusal};
-pub use latitudes::{LatitudeCoded, latitude_code, reported_latitude};
-pub use longitudes::{LongitudeCoded, longitude_code, reported_longitude};
-
-// What either code reports.
-#[derive(Clone, Copy)]
-pub enum CoordinateReported {
-    Coordinate(Nanodegrees),
-    Refused(Refusal),
-}
+pub use latitudes::{latitude_code, reported_latitude};
+pub use longitudes::{longitude_code, reported_longitude};

@@ -4,23 +4,16 @@ ghost use Rattle.std.specs.Prelude.{◌<◌};
 ghost use Rattle.coordinates.specs.Halves.{Less};
 ghost use Rattle.coordinates.specs.Longitude.{CodedLongitude, ReportedLongitude};
 
-use crate::CoordinateReported;
 use ground::{LongitudeCode, Nanodegrees, Refusal, Whole};
 
-#[derive(Clone, Copy)]
-pub enum LongitudeCoded {
-    Code(LongitudeCode),
-    Refused(Refusal),
-}
-
 // The remainder takes +180 degrees, a whole turn once half a turn is added, to the meridian of -180.
-pub fn longitude_code(longitude: Nanodegrees) -> LongitudeCoded
+pub fn longitude_code(longitude: Nanodegrees) -> Result<LongitudeCode, Refusal>
     ensures { CodedLongitude longitude result }
 {
     let parts = ground::taken_apart(Whole(longitude.0));
     let size = parts.size;
     if 180000000000 < size {
-        return LongitudeCoded::Refused(Refusal::OutOfRange);
+        return Err(Refusal::OutOfRange);
     }
     let turned = if parts.negative {
         180000000000 - size
@@ -28,17 +21,17 @@ pub fn longitude_code(longitude: Nanodegrees) -> LongitudeCoded
         180000000000 + size
     };
     let steps = turned * 16777216 / 360000000000 % 16777216;
-    LongitudeCoded::Code(code_of(steps as u32))
+    Ok(code_of(steps as u32))
 }
 
 // The whole nanodegree at or above the step's lower end.
-pub fn reported_longitude(code: LongitudeCode) -> CoordinateReported
+pub fn reported_longitude(code: LongitudeCode) -> Result<Nanodegrees, Refusal>
     ensures { ReportedLongitude code result }
 {
     let parts = ground::taken_apart(Whole(code.0 as i64));
     let size = parts.size;
     if 8388608 < size {
-        return CoordinateReported::Refused(Refusal::OutOfRange);
+        return Err(Refusal::OutOfRange);
     }
     let steps = if parts.negative {
         8388608 - size
@@ -46,10 +39,10 @@ pub fn reported_longitude(code: LongitudeCode) -> CoordinateReported
         8388608 + size
     };
     if 16777216 <= steps {
-        return CoordinateReported::Refused(Refusal::OutOfRange);
+        return Err(Refusal::OutOfRange);
     }
     let turned = (steps * 360000000000 + 16777215) / 16777216;
-    CoordinateReported::Coordinate(lowered(turned))
+    Ok(lowered(turned))
 }
 
 // The code of a step, less half a turn.

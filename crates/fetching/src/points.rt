@@ -12,13 +12,11 @@ pub fn polygon(s: &[u8], n: u8) -> Shape
 {
     let mut shape = layout::blank_shape(Kind::Polygon);
     shape.count = n;
-    let mut i = 0;
-    while i < n as usize {
+    for i in 0..n as usize {
         let latitude = octets::latitude_at(s, 1 + 6 * i);
         let longitude = octets::longitude_at(s, 4 + 6 * i);
         shape.latitudes[i] = latitude;
         shape.longitudes[i] = longitude;
-        i += 1;
     }
     shape
 }

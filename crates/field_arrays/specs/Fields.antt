@@ -1,16 +1,13 @@
 -- ONE FIELD'S CODE AND QUANTITY IN ELEMENTS.
-use Rattle.std.specs.Prelude.{◌≡◌, Bool, List, [], ◌∷◌, ℕ, ◌≤◌, ◌<◌, ℤ, pos, length}
-use Rattle.ground.specs.declared.refusals.Outcome.{Outcome}
-use Rattle.ground.specs.declared.refusals.Outcome.TheVariants as outcome
+use Rattle.std.specs.Prelude.{◌≡◌, Bool, List, [], ◌∷◌, ℕ, ◌≤◌, ◌<◌, ℤ, pos, length, Result, Ok, Err, Option, Some, None}
 use Rattle.ground.specs.declared.refusals.Refusal.TheVariants.{UnknownType, WrongLength, OutOfRange}
-use Rattle.ground.specs.declared.quantity.UncertaintySpeed.{UncertaintySpeed}
-use Rattle.ground.specs.declared.quantity.UncertaintySpeed.TheVariants as uncertain
-use Rattle.ground.specs.declared.quantity.Confidence.{Confidence}
-use Rattle.ground.specs.declared.quantity.Confidence.TheVariants as confident
 use Rattle.ground.specs.declared.said.SaidCode.{SaidCode}
 use Rattle.ground.specs.declared.said.SaidCode.TheVariants as code
 use Rattle.ground.specs.declared.said.SaidQuantity.{SaidQuantity}
 use Rattle.ground.specs.declared.said.SaidQuantity.TheVariants as quantity
+use Rattle.ground.specs.declared.refusals.Refusal.{Refusal}
+use Rattle.ground.specs.declared.quantity.PerCent.{PerCent}
+use Rattle.ground.specs.declared.quantity.MetresPerHour.{MetresPerHour}
 use Rattle.octets.specs.Codes.{bit_of, sign_of}
 use Rattle.fields.specs.Fields.{Field, CodeOf, QuantityOf}
 use Rattle.fields.specs.Fields as field
@@ -40,13 +37,13 @@ pub record IsSigned (z x : ℤ) : Type 0 where
   pub number : z ≡ x
   pub fits : Signed32 z
 
-abbrev pub IsUncertaintySpeed : ℤ → UncertaintySpeed → Type 0
-IsUncertaintySpeed z (uncertain.Speed s) = IsNatural z s.0
-IsUncertaintySpeed z uncertain.Missing = z ≡ missing
+abbrev pub IsUncertaintySpeed : ℤ → Option MetresPerHour → Type 0
+IsUncertaintySpeed z (Some s) = IsNatural z s.0
+IsUncertaintySpeed z None = z ≡ missing
 
-abbrev pub IsConfidence : ℤ → Confidence → Type 0
-IsConfidence z (confident.PerCent p) = IsNatural z p
-IsConfidence z confident.Missing = z ≡ missing
+abbrev pub IsConfidence : ℤ → Option PerCent → Type 0
+IsConfidence z (Some p) = IsNatural z p.0
+IsConfidence z None = z ≡ missing
 
 -- Quantities arrive signed in 64 bits for coordinates, signed in 32 for altitude and vertical speed, unsigned in 32 otherwise.
 abbrev pub QuantityArrives : (f : Field) → ℤ → QuantityOf f → Type 0
@@ -66,13 +63,13 @@ QuantityArrives field.uncertainty_speed z x = IsUncertaintySpeed z x
 QuantityArrives field.confidence z x = IsConfidence z x
 
 -- the field's coder tells of the quantity in the element; 7 where none arrives
-pub data CodesElement (f : Field) (z : ℤ) (r : SaidCode) : Type 0 where
-  outside : ((x : QuantityOf f) → QuantityArrives f z x → ⊥) → r ≡ code.Refused OutOfRange → CodesElement f z r
+pub data CodesElement (f : Field) (z : ℤ) (r : Result SaidCode Refusal) : Type 0 where
+  outside : ((x : QuantityOf f) → QuantityArrives f z x → ⊥) → r ≡ Err OutOfRange → CodesElement f z r
   coded : {x : QuantityOf f} → QuantityArrives f z x → coding.TellsCode f x r → CodesElement f z r
 
 -- of the field whose place is that number; 2 where there is none
-pub data CodesField (number : ℕ) (z : ℤ) (r : SaidCode) : Type 0 where
-  no_field : 14 ≤ number → r ≡ code.Refused UnknownType → CodesField number z r
+pub data CodesField (number : ℕ) (z : ℤ) (r : Result SaidCode Refusal) : Type 0 where
+  no_field : 14 ≤ number → r ≡ Err UnknownType → CodesField number z r
   of_field : {f : Field} → place_of f ≡ number → CodesElement f z r → CodesField number z r
 
 -- ---- REPORTING
@@ -109,50 +106,42 @@ SaysCode field.uncertainty_speed elements c = IsCode elements c.0
 SaysCode field.confidence elements c = IsCode elements c.0
 
 -- 3 where elements are missing, 7 where they say no code of the field's type, else what the field's reporter tells
-pub data ReportsElements (f : Field) (elements : List ℕ) (r : SaidQuantity) : Type 0 where
-  too_short : length elements < count_of f → r ≡ quantity.Refused WrongLength → ReportsElements f elements r
-  no_code : count_of f ≤ length elements → ((c : CodeOf f) → SaysCode f elements c → ⊥) → r ≡ quantity.Refused OutOfRange → ReportsElements f elements r
+pub data ReportsElements (f : Field) (elements : List ℕ) (r : Result SaidQuantity Refusal) : Type 0 where
+  too_short : length elements < count_of f → r ≡ Err WrongLength → ReportsElements f elements r
+  no_code : count_of f ≤ length elements → ((c : CodeOf f) → SaysCode f elements c → ⊥) → r ≡ Err OutOfRange → ReportsElements f elements r
   reported : {c : CodeOf f} → SaysCode f elements c → reporting.TellsQuantity f c r → ReportsElements f elements r
 
-pub data ReportsField (number : ℕ) (elements : List ℕ) (r : SaidQuantity) : Type 0 where
-  no_field : 14 ≤ number → r ≡ quantity.Refused UnknownType → ReportsField number elements r
+pub data ReportsField (number : ℕ) (elements : List ℕ) (r : Result SaidQuantity Refusal) : Type 0 where
+  no_field : 14 ≤ number → r ≡ Err UnknownType → ReportsField number elements r
   of_field : {f : Field} → place_of f ≡ number → ReportsElements f elements r → ReportsField number elements r
 
 -- ---- WHAT IS PUT
 
-abbrev pub said_code_outcome : SaidCode → Outcome
-said_code_outcome (code.Natural n) = outcome.Done
-said_code_outcome (code.Signed c) = outcome.Done
-said_code_outcome (code.Longitude c) = outcome.Done
-said_code_outcome (code.Refused why) = outcome.Refused why
-
 -- a code's elements
-abbrev pub said_code_elements : SaidCode → List ℕ
-said_code_elements (code.Natural n) = n ∷ []
-said_code_elements (code.Signed c) = bit_of c.0 ∷ c.1 ∷ []
-said_code_elements (code.Longitude c) = bits_of c.0 ∷ []
-said_code_elements (code.Refused why) = []
+abbrev pub code_elements : SaidCode → List ℕ
+code_elements (code.Natural n) = n ∷ []
+code_elements (code.Signed c) = bit_of c.0 ∷ c.1 ∷ []
+code_elements (code.Longitude c) = bits_of c.0 ∷ []
 
-abbrev pub said_quantity_outcome : SaidQuantity → Outcome
-said_quantity_outcome (quantity.Natural n) = outcome.Done
-said_quantity_outcome (quantity.Coordinate x) = outcome.Done
-said_quantity_outcome (quantity.Altitude a) = outcome.Done
-said_quantity_outcome (quantity.VerticalSpeed v) = outcome.Done
-said_quantity_outcome quantity.Missing = outcome.Done
-said_quantity_outcome (quantity.Refused why) = outcome.Refused why
+abbrev pub said_code_elements : Result SaidCode Refusal → List ℕ
+said_code_elements (Ok said) = code_elements said
+said_code_elements (Err why) = []
 
 -- a quantity's element
-abbrev pub said_quantity_elements : SaidQuantity → List ℤ
-said_quantity_elements (quantity.Natural n) = pos n ∷ []
-said_quantity_elements (quantity.Coordinate x) = x.0 ∷ []
-said_quantity_elements (quantity.Altitude a) = a.0 ∷ []
-said_quantity_elements (quantity.VerticalSpeed v) = v.0 ∷ []
-said_quantity_elements quantity.Missing = missing ∷ []
-said_quantity_elements (quantity.Refused why) = []
+abbrev pub quantity_elements : SaidQuantity → List ℤ
+quantity_elements (quantity.Natural n) = pos n ∷ []
+quantity_elements (quantity.Coordinate x) = x.0 ∷ []
+quantity_elements (quantity.Altitude a) = a.0 ∷ []
+quantity_elements (quantity.VerticalSpeed v) = v.0 ∷ []
+quantity_elements quantity.Missing = missing ∷ []
+
+abbrev pub said_quantity_elements : Result SaidQuantity Refusal → List ℤ
+said_quantity_elements (Ok said) = quantity_elements said
+said_quantity_elements (Err why) = []
 
 -- ---- the fields of a sort together
 
-abbrev pub CodesNatural : Unsigned → ℤ → SaidCode → Type 0
+abbrev pub CodesNatural : Unsigned → ℤ → Result SaidCode Refusal → Type 0
 CodesNatural unsigned.Uncertainty z r = CodesElement field.uncertainty z r
 CodesNatural unsigned.AltitudeUncertainty z r = CodesElement field.altitude_uncertainty z r
 CodesNatural unsigned.InnerRadius z r = CodesElement field.inner_radius z r
@@ -165,7 +154,7 @@ CodesNatural unsigned.HorizontalSpeed z r = CodesElement field.horizontal_speed 
 CodesNatural unsigned.UncertaintySpeed z r = (z ≡ missing → ⊥) → CodesElement field.uncertainty_speed z r
 CodesNatural unsigned.Confidence z r = (z ≡ missing → ⊥) → CodesElement field.confidence z r
 
-abbrev pub ReportsByte : Byte → List ℕ → SaidQuantity → Type 0
+abbrev pub ReportsByte : Byte → List ℕ → Result SaidQuantity Refusal → Type 0
 ReportsByte byte.Uncertainty elements r = ReportsElements field.uncertainty elements r
 ReportsByte byte.AltitudeUncertainty elements r = ReportsElements field.altitude_uncertainty elements r
 ReportsByte byte.Offset elements r = ReportsElements field.offset elements r
@@ -174,12 +163,12 @@ ReportsByte byte.Orientation elements r = ReportsElements field.orientation elem
 ReportsByte byte.UncertaintySpeed elements r = ReportsElements field.uncertainty_speed elements r
 ReportsByte byte.Confidence elements r = ReportsElements field.confidence elements r
 
-abbrev pub ReportsWord : Word → List ℕ → SaidQuantity → Type 0
+abbrev pub ReportsWord : Word → List ℕ → Result SaidQuantity Refusal → Type 0
 ReportsWord word.InnerRadius elements r = ReportsElements field.inner_radius elements r
 ReportsWord word.Bearing elements r = ReportsElements field.bearing elements r
 ReportsWord word.HorizontalSpeed elements r = ReportsElements field.horizontal_speed elements r
 
-abbrev pub ReportsSigned : Signed → List ℕ → SaidQuantity → Type 0
+abbrev pub ReportsSigned : Signed → List ℕ → Result SaidQuantity Refusal → Type 0
 ReportsSigned signed.Latitude elements r = ReportsElements field.latitude elements r
 ReportsSigned signed.Altitude elements r = ReportsElements field.altitude elements r
 ReportsSigned signed.VerticalSpeed elements r = ReportsElements field.vertical_speed elements r

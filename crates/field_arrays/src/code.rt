@@ -1,19 +1,17 @@
 // A quantity's code. The fields are numbered as document 01's table and the coder's names are: latitude, longitude, uncertainty,
 // altitude uncertainty, altitude, inner radius, offset, included, orientation, bearing, horizontal speed, vertical speed, uncertainty
 // speed, confidence, from 0.
-ghost use Rattle.code_arrays.specs.Answers.{PutsElements};
-ghost use Rattle.field_arrays.specs.Fields.{CodesField, CodesNatural, CodesElement, said_code_outcome, said_code_elements};
+ghost use Rattle.ground.specs.Answers.{outcome_of};
+ghost use Rattle.code_arrays.specs.Answers.{answer_of, PutsElements};
+ghost use Rattle.field_arrays.specs.Fields.{CodesField, CodesNatural, CodesElement, said_code_elements};
 ghost use Rattle.fields.specs.Fields.{altitude, vertical_speed, uncertainty_speed, confidence};
-ghost use Rattle.std.specs.Prelude.{[], ◌∷◌};
-ghost use Rattle.ground.specs.declared.refusals.Outcome.TheVariants.{Done};
+ghost use Rattle.std.specs.Prelude.{[], ◌∷◌, Ok};
 
-use ground::{
-    Nanodegrees, Outcome, Refusal, SaidCode, SignedMetresPerHour, SignedMillimetres, Whole,
-};
+use ground::{Nanodegrees, Refusal, SaidCode, SignedMetresPerHour, SignedMillimetres, Whole};
 use one_field::{Coordinate, Markable, Unsigned};
 
 // The code of the quantity in an element. One that doesn't arrive in its width is out of range; there is no field from 14 on.
-pub fn coded(field: u8, quantity: Whole) -> SaidCode
+pub fn coded(field: u8, quantity: Whole) -> Result<SaidCode, Refusal>
     ensures { CodesField field quantity.0 result }
 {
     match field {
@@ -31,20 +29,20 @@ pub fn coded(field: u8, quantity: Whole) -> SaidCode
         11 => vertical_speed(quantity),
         12 => uncertainty_speed(quantity),
         13 => confidence(quantity),
-        _ => SaidCode::Refused(Refusal::UnknownType),
+        _ => Err(Refusal::UnknownType),
     }
 }
 
-fn natural(field: Unsigned, quantity: Whole) -> SaidCode
+fn natural(field: Unsigned, quantity: Whole) -> Result<SaidCode, Refusal>
     ensures { CodesNatural field quantity.0 result }
 {
-    if !code_arrays::is_natural(quantity) {
-        return SaidCode::Refused(Refusal::OutOfRange);
+    match quantity.0 {
+        x @ 0..=4294967295 => one_field::coded_unsigned(field, x as u32),
+        _ => Err(Refusal::OutOfRange),
     }
-    one_field::coded_unsigned(field, code_arrays::natural(quantity))
 }
 
-fn uncertainty_speed(quantity: Whole) -> SaidCode
+fn uncertainty_speed(quantity: Whole) -> Result<SaidCode, Refusal>
     ensures { CodesElement uncertainty_speed quantity.0 result }
 {
     if code_arrays::is_missing(quantity) {
@@ -53,7 +51,7 @@ fn uncertainty_speed(quantity: Whole) -> SaidCode
     natural(Unsigned::UncertaintySpeed, quantity)
 }
 
-fn confidence(quantity: Whole) -> SaidCode
+fn confidence(quantity: Whole) -> Result<SaidCode, Refusal>
     ensures { CodesElement confidence quantity.0 result }
 {
     if code_arrays::is_missing(quantity) {
@@ -62,55 +60,59 @@ fn confidence(quantity: Whole) -> SaidCode
     natural(Unsigned::Confidence, quantity)
 }
 
-fn altitude(quantity: Whole) -> SaidCode
+fn altitude(quantity: Whole) -> Result<SaidCode, Refusal>
     ensures { CodesElement altitude quantity.0 result }
 {
-    if !code_arrays::is_signed(quantity) {
-        return SaidCode::Refused(Refusal::OutOfRange);
+    match quantity.0 {
+        x @ -2147483648..=2147483647 => one_field::coded_altitude(SignedMillimetres(x as i32)),
+        _ => Err(Refusal::OutOfRange),
     }
-    let height = code_arrays::signed(quantity);
-    one_field::coded_altitude(SignedMillimetres(height.0))
 }
 
-fn vertical_speed(quantity: Whole) -> SaidCode
+fn vertical_speed(quantity: Whole) -> Result<SaidCode, Refusal>
     ensures { CodesElement vertical_speed quantity.0 result }
 {
-    if !code_arrays::is_signed(quantity) {
-        return SaidCode::Refused(Refusal::OutOfRange);
+    match quantity.0 {
+        x @ -2147483648..=2147483647 => one_field::coded_vertical_speed(SignedMetresPerHour(
+            x as i32,
+        )),
+        _ => Err(Refusal::OutOfRange),
     }
-    let speed = code_arrays::signed(quantity);
-    one_field::coded_vertical_speed(SignedMetresPerHour(speed.0))
 }
 
 // Puts a code's numbers: S or D and N, or N alone.
-pub fn put_code(out: &mut [u32], said: SaidCode) -> Whole
-    ensures { PutsElements (said_code_outcome said) (said_code_elements said) out.old out.new result.0 }
+pub fn put_code(out: &mut [u32], said: Result<SaidCode, Refusal>) -> Whole
+    ensures { PutsElements (outcome_of said) (said_code_elements said) out.old out.new result.0 }
 {
-    match said {
+    code_arrays::answer(put(out, said))
+}
+
+fn put(out: &mut [u32], said: Result<SaidCode, Refusal>) -> Result<usize, Refusal>
+    ensures { PutsElements (outcome_of said) (said_code_elements said) out.old out.new (answer_of result) }
+{
+    match said? {
         SaidCode::Natural(n) => put_one(out, n),
         SaidCode::Signed(code) => put_two(out, code_arrays::bit(code.0), code.1),
         SaidCode::Longitude(code) => put_one(out, code_arrays::complement_of(code)),
-        SaidCode::Refused(why) => code_arrays::answer(Outcome::Refused(why), 0),
     }
 }
 
-fn put_one(out: &mut [u32], n: u32) -> Whole
-    ensures { PutsElements Done (n ∷ []) out.old out.new result.0 }
+fn put_one(out: &mut [u32], n: u32) -> Result<usize, Refusal>
+    ensures { PutsElements (Ok tt) (n ∷ []) out.old out.new (answer_of result) }
 {
-    if out.len() < 1 {
-        return code_arrays::answer(Outcome::Refused(Refusal::BufferTooShort), 0);
-    }
-    out[0] = n;
-    code_arrays::answer(Outcome::Done, 1)
+    let [one, ..] = out else {
+        return Err(Refusal::BufferTooShort);
+    };
+    *one = n;
+    Ok(1)
 }
 
-fn put_two(out: &mut [u32], first: u32, second: u32) -> Whole
-    ensures { PutsElements Done (first ∷ second ∷ []) out.old out.new result.0 }
+fn put_two(out: &mut [u32], first: u32, second: u32) -> Result<usize, Refusal>
+    ensures { PutsElements (Ok tt) (first ∷ second ∷ []) out.old out.new (answer_of result) }
 {
-    if out.len() < 2 {
-        return code_arrays::answer(Outcome::Refused(Refusal::BufferTooShort), 0);
-    }
-    out[0] = first;
-    out[1] = second;
-    code_arrays::answer(Outcome::Done, 2)
+    let Some(both) = out.first_chunk_mut::<2>() else {
+        return Err(Refusal::BufferTooShort);
+    };
+    *both = [first, second];
+    Ok(2)
 }

@@ -40,8 +40,8 @@ fn included_of(kind: Kind, code: IncludedCode) -> Millidegrees
     requires { code.0 < 180 }
     ensures { IncludedReported kind code result }
 {
-    if let Kind::Arc = kind {
-        return crate::included(code);
+    match kind {
+        Kind::Arc => crate::included(code),
+        _ => Millidegrees(0),
     }
-    Millidegrees(0)
 }

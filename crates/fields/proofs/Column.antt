@@ -1,4 +1,5 @@
 -- What a report promises is what document 01's column "Quantity reported" says.
+use Rattle.std.specs.Prelude.{Some, None}
 use mathlib.Core.Path.{◌≡◌, ap, sym, subst, ◌∙◌}
 use mathlib.Core.Bool.{true}
 use Prim.Native.Nat.{ℕ, ◌+◌, ◌*◌}
@@ -7,8 +8,6 @@ use native.Mathlib.Omega.{arith}
 use lib.IntN.{ℤ, pos, negsuc}
 use Rattle.ground.specs.Answers.{done}
 use Rattle.ground.specs.Sets.{LowestOf, GreatestCovered}
-use Rattle.ground.specs.declared.quantity.UncertaintySpeed.TheVariants as uncertain
-use Rattle.ground.specs.declared.quantity.Confidence.TheVariants as confident
 use Rattle.ground.specs.Signs.{signed}
 use Rattle.ground.specs.declared.code.LatitudeCode.{LatitudeCode}
 use Rattle.ground.specs.declared.quantity.Nanodegrees.{Nanodegrees}
@@ -54,7 +53,7 @@ column field.orientation c x p = ap (λ (q : Millidegrees). q.0) (quantity-is fi
 column field.bearing c x p = ap (λ (q : Millidegrees). q.0) (quantity-is field.bearing c x (omega (arith, p.member.code)) p)
 column field.horizontal_speed c x p = p.speed
 column field.vertical_speed c x p = p.speed
-column field.uncertainty_speed c (uncertain.Speed s) p = (p.code, le_antisymm p.covered.within (p.greatest (1000 * c.0) (record { within = omega arith })))
-column field.uncertainty_speed c uncertain.Missing p = p
-column field.confidence c (confident.PerCent n) p = (omega (arith, p.itself, p.least), omega (arith, p.itself, p.most), sym p.itself)
-column field.confidence c confident.Missing p = p
+column field.uncertainty_speed c (Some s) p = (p.code, le_antisymm p.covered.within (p.greatest (1000 * c.0) (record { within = omega arith })))
+column field.uncertainty_speed c None p = p
+column field.confidence c (Some n) p = (omega (arith, p.itself, p.least), omega (arith, p.itself, p.most), sym p.itself)
+column field.confidence c None p = p

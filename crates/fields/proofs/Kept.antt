@@ -1,11 +1,11 @@
 -- A code keeps its value: the quantity reported for it, coded afresh, gives that code, and so however often it travels.
+use Rattle.std.specs.Prelude.{Some, None}
 use mathlib.Core.Path.{◌≡◌, refl, ap, ◌∙◌, subst⁻¹}
 use Prim.Native.Nat.{ℕ, ◌+◌, ◌*◌, ◌-◌, ◌<◌}
 use native.Mathlib.Omega.{arith}
 use Rattle.ground.specs.Answers.{Said, done}
 use Rattle.ground.specs.Sets.{OfSign}
 use Rattle.ground.specs.Steps.{SpeedStep}
-use Rattle.ground.specs.declared.quantity.UncertaintySpeed.TheVariants as uncertain
 use Rattle.radii.specs.Covering.{Covers}
 use Rattle.radii.proofs.CoverLaws.{covers_up, covers-next}
 use Rattle.speeds.specs.Speeds.{SpeedCovers}
@@ -38,8 +38,8 @@ own-set field.orientation c x p = p.member
 own-set field.bearing c x p = p.member
 own-set field.horizontal_speed c x p = record { code = p.code; from = omega (arith, p.speed); below = λ l. omega (arith, p.speed) }
 own-set field.vertical_speed c x p = subst⁻¹ (OfSign c.0 (SpeedStep 255 c.1)) p.speed (own-step c.0 c.1 p.code)
-own-set field.uncertainty_speed c (uncertain.Speed s) p = greatest-least speed-covering-rises p
-own-set field.uncertainty_speed c uncertain.Missing p = p
+own-set field.uncertainty_speed c (Some s) p = greatest-least speed-covering-rises p
+own-set field.uncertainty_speed c None p = p
 own-set field.confidence c x p = p
 
 -- ---- so it is coded as that code, and every later trip ends there too

@@ -1,4 +1,5 @@
 -- One answer: coding a quantity says one thing, and reporting a code says one thing, for every field.
+use Rattle.std.specs.Prelude.{Option, Some, None}
 use mathlib.Core.Path.{◌≡◌, refl, sym, ap, ◌∙◌}
 use mathlib.Core.Bool.{Bool}
 use Prim.Native.Nat.{ℕ, ◌≤◌, ◌<◌}
@@ -10,12 +11,8 @@ use Rattle.ground.proofs.SetLaws.{not-inside}
 use Rattle.ground.specs.Steps.{OpenStep, SpeedStep}
 use Rattle.ground.specs.declared.code.UncertaintySpeedCode.{UncertaintySpeedCode}
 use Rattle.ground.specs.declared.code.ConfidenceCode.{ConfidenceCode}
-use Rattle.ground.specs.declared.quantity.UncertaintySpeed.{UncertaintySpeed}
-use Rattle.ground.specs.declared.quantity.UncertaintySpeed.TheVariants as uncertain
-use Rattle.ground.specs.declared.quantity.UncertaintySpeed.TheVariants.{Speed}
-use Rattle.ground.specs.declared.quantity.Confidence.{Confidence}
-use Rattle.ground.specs.declared.quantity.Confidence.TheVariants as confident
-use Rattle.ground.specs.declared.quantity.Confidence.TheVariants.{PerCent}
+use Rattle.ground.specs.declared.quantity.PerCent.{PerCent}
+use Rattle.ground.specs.declared.quantity.MetresPerHour.{MetresPerHour}
 use Rattle.speeds.specs.Speeds.{UncertaintySpeedReporting}
 use Rattle.confidences.specs.Confidences.{ConfidenceSet}
 use Rattle.radii.proofs.CoverLaws.{covers_up}
@@ -26,25 +23,25 @@ use Rattle.fields.proofs.StepLaws.{step-one, open-one, upper-one, speed-one, lat
 use Rattle.fields.proofs.SetLaws.{least-of-one, greatest-of-one, signed-one, nearest-one, least-code-one, covered_one}
 use Rattle.fields.proofs.LongitudeLaws.{longitude-one, lowest-one, in-range}
 
-speed-reported-one : (c : UncertaintySpeedCode) (x y : UncertaintySpeed) → UncertaintySpeedReporting c x → UncertaintySpeedReporting c y → x ≡ y
-speed-reported-one c (Speed s) (Speed t) p q = ap (λ (n : ℕ). Speed (record { 0 = n })) (covered_one p q)
-speed-reported-one c (Speed s) uncertain.Missing p q = absurd (omega (arith, p.code))
-speed-reported-one c uncertain.Missing (Speed t) p q = absurd (omega (arith, q.code))
-speed-reported-one c uncertain.Missing uncertain.Missing p q = refl
+speed-reported-one : (c : UncertaintySpeedCode) (x y : Option MetresPerHour) → UncertaintySpeedReporting c x → UncertaintySpeedReporting c y → x ≡ y
+speed-reported-one c (Some s) (Some t) p q = ap (λ (n : ℕ). Some (record { 0 = n })) (covered_one p q)
+speed-reported-one c (Some s) None p q = absurd (omega (arith, p.code))
+speed-reported-one c None (Some t) p q = absurd (omega (arith, q.code))
+speed-reported-one c None None p q = refl
 
-speed-apart : (c : UncertaintySpeedCode) (x : UncertaintySpeed) → UncertaintySpeedReporting c x → 255 < c.0 → ⊥
-speed-apart c (Speed s) p h = omega (arith, p.code)
-speed-apart c uncertain.Missing p h = omega arith
+speed-apart : (c : UncertaintySpeedCode) (x : Option MetresPerHour) → UncertaintySpeedReporting c x → 255 < c.0 → ⊥
+speed-apart c (Some s) p h = omega (arith, p.code)
+speed-apart c None p h = omega arith
 
-confidence-reported-one : (c : ConfidenceCode) (x y : Confidence) → ConfidenceSet c x → ConfidenceSet c y → x ≡ y
-confidence-reported-one c (PerCent m) (PerCent n) p q = ap PerCent (sym p.itself ∙ q.itself)
-confidence-reported-one c (PerCent m) confident.Missing p q = absurd (omega (arith, p.itself, p.least))
-confidence-reported-one c confident.Missing (PerCent n) p q = absurd (omega (arith, q.itself, q.least))
-confidence-reported-one c confident.Missing confident.Missing p q = refl
+confidence-reported-one : (c : ConfidenceCode) (x y : Option PerCent) → ConfidenceSet c x → ConfidenceSet c y → x ≡ y
+confidence-reported-one c (Some m) (Some n) p q = ap (λ (k : ℕ). Some (record { 0 = k })) (sym p.itself ∙ q.itself)
+confidence-reported-one c (Some m) None p q = absurd (omega (arith, p.itself, p.least))
+confidence-reported-one c None (Some n) p q = absurd (omega (arith, q.itself, q.least))
+confidence-reported-one c None None p q = refl
 
-confidence-apart : (c : ConfidenceCode) (x : Confidence) → ConfidenceSet c x → 101 ≤ c.0 → ⊥
-confidence-apart c (PerCent n) p h = omega (arith, p.itself, p.most)
-confidence-apart c confident.Missing p h = omega arith
+confidence-apart : (c : ConfidenceCode) (x : Option PerCent) → ConfidenceSet c x → 101 ≤ c.0 → ⊥
+confidence-apart c (Some n) p h = omega (arith, p.itself, p.most)
+confidence-apart c None p h = omega arith
 
 pub coding-one : (f : Field) (x : QuantityOf f) (a b : Said (CodeOf f)) → Coding f x a → Coding f x b → a ≡ b
 coding-one field.latitude x = one_answer _ 7 _ (λ c d p q. signed-one (λ (s : Bool) (N : ℕ). record { 0 = s; 1 = N }) (LatitudeStep 23 1000000000) (latitude-one 23 1000000000) p q) (λ c p h. omega arith)
@@ -59,10 +56,10 @@ coding-one field.orientation x = one_answer _ 7 _ (λ c d p q. ap (λ (n : ℕ).
 coding-one field.bearing x = one_answer _ 7 _ (λ c d p q. ap (λ (n : ℕ). record { 0 = n }) (step-one 1000 359 c.0 d.0 x.0 p q)) (λ c p h. omega arith)
 coding-one field.horizontal_speed x = one_answer _ 0 _ (λ c d p q. ap (λ (n : ℕ). record { 0 = n }) (speed-one 65535 c.0 d.0 x.0 p q)) (λ c p h. h)
 coding-one field.vertical_speed x = one_answer _ 0 _ (λ c d p q. signed-one (λ (s : Bool) (N : ℕ). record { 0 = s; 1 = N }) (SpeedStep 255) (speed-one 255) p q) (λ c p h. h)
-coding-one field.uncertainty_speed (Speed s) = one_answer _ 8 _ (λ c d p q. ap (λ (n : ℕ). record { 0 = n }) (least-code-one p q)) (λ c p h. h (record { within = omega (arith, p.covered.within) }))
-coding-one field.uncertainty_speed uncertain.Missing = one_answer _ 8 _ (λ c d p q. ap (λ (n : ℕ). record { 0 = n }) (p ∙ sym q)) (λ c p h. h)
-coding-one field.confidence (PerCent n) = one_answer _ 7 _ (λ c d p q. ap (λ (n : ℕ). record { 0 = n }) (p.itself ∙ sym q.itself)) (λ c p h. not-inside h p.least p.most)
-coding-one field.confidence confident.Missing = one_answer _ 7 _ (λ c d p q. ap (λ (n : ℕ). record { 0 = n }) (p ∙ sym q)) (λ c p h. h)
+coding-one field.uncertainty_speed (Some s) = one_answer _ 8 _ (λ c d p q. ap (λ (n : ℕ). record { 0 = n }) (least-code-one p q)) (λ c p h. h (record { within = omega (arith, p.covered.within) }))
+coding-one field.uncertainty_speed None = one_answer _ 8 _ (λ c d p q. ap (λ (n : ℕ). record { 0 = n }) (p ∙ sym q)) (λ c p h. h)
+coding-one field.confidence (Some n) = one_answer _ 7 _ (λ c d p q. ap (λ (n : ℕ). record { 0 = n }) (p.itself ∙ sym q.itself)) (λ c p h. not-inside h p.least p.most)
+coding-one field.confidence None = one_answer _ 7 _ (λ c d p q. ap (λ (n : ℕ). record { 0 = n }) (p ∙ sym q)) (λ c p h. h)
 
 pub reporting-one : (f : Field) (c : CodeOf f) (a b : Said (QuantityOf f)) → Reporting f c a → Reporting f c b → a ≡ b
 reporting-one field.latitude c = one_answer _ 7 _ (λ x y p q. ap (λ (z : ℤ). record { 0 = z }) (nearest-one p q)) (λ x p h. omega (arith, p.member.size.bits))

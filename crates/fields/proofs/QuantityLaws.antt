@@ -1,4 +1,5 @@
 -- The quantity worked out for a code is the one that reporting promises.
+use Rattle.std.specs.Prelude.{Some, None}
 use mathlib.Core.Path.{◌≡◌, refl}
 use mathlib.Core.Bool.{Bool, true, false, cond}
 use Prim.Native.Nat.{◌+◌, ◌-◌, ◌*◌, ◌/◌, ◌<◌}
@@ -11,8 +12,6 @@ use Rattle.ground.specs.Answers.{done}
 use Rattle.ground.specs.Sets.{LowestOf}
 use Rattle.ground.specs.declared.code.UncertaintySpeedCode.{UncertaintySpeedCode}
 use Rattle.ground.specs.declared.code.ConfidenceCode.{ConfidenceCode}
-use Rattle.ground.specs.declared.quantity.UncertaintySpeed.TheVariants as uncertain
-use Rattle.ground.specs.declared.quantity.Confidence.TheVariants as confident
 use Rattle.ground.proofs.AnswerLaws.{said-one}
 use Rattle.ground.proofs.SetLaws.{nearest-signed}
 use Rattle.coordinates.specs.Halves.{up, down}
@@ -38,13 +37,13 @@ longitude-lowest N h =
     let t = turns N h in
     reported N (longitude_quantity N) m ((m * 360000000000 + 16777215) / 16777216) h t.0 t.1 refl (sub_parts ((m * 360000000000 + 16777215) / 16777216) 180000000000)
 
-speed-by : (c : UncertaintySpeedCode) → c.0 < 256 → (b : Bool) → eqb c.0 255 ≡ b → UncertaintySpeedReporting c (cond b uncertain.Missing (uncertain.Speed (record { 0 = 1000 * c.0 })))
+speed-by : (c : UncertaintySpeedCode) → c.0 < 256 → (b : Bool) → eqb c.0 255 ≡ b → UncertaintySpeedReporting c (cond b None (Some (record { 0 = 1000 * c.0 })))
 speed-by c h true e = eqb-true c.0 255 e
 speed-by c h false e =
     let n : c.0 ≡ 255 → ⊥ = eqb-false c.0 255 e in
     record { code = omega arith; covered = record { within = omega arith }; greatest = λ s p. p.within }
 
-confidence-by : (c : ConfidenceCode) → c.0 < 101 → (b : Bool) → eqb c.0 0 ≡ b → ConfidenceSet c (cond b confident.Missing (confident.PerCent c.0))
+confidence-by : (c : ConfidenceCode) → c.0 < 101 → (b : Bool) → eqb c.0 0 ≡ b → ConfidenceSet c (cond b None (Some (record { 0 = c.0 })))
 confidence-by c h true e = eqb-true c.0 0 e
 confidence-by c h false e =
     let n : c.0 ≡ 0 → ⊥ = eqb-false c.0 0 e in

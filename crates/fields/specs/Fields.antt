@@ -1,14 +1,12 @@
 -- Document 01's table: what each field's codes and quantities are, and what coding and reporting promise.
-use Rattle.std.specs.Prelude.{◌<◌}
-use Rattle.ground.specs.Answers.{Said, done, refused, Answer, Always}
+use Rattle.std.specs.Prelude.{◌<◌, Result, Option}
+use Rattle.ground.specs.Answers.{Said, done, refused, Answer, Always, said_of}
 use Rattle.ground.specs.declared.quantity.Nanodegrees.{Nanodegrees}
 use Rattle.ground.specs.declared.quantity.Millidegrees.{Millidegrees}
 use Rattle.ground.specs.declared.quantity.Millimetres.{Millimetres}
 use Rattle.ground.specs.declared.quantity.SignedMillimetres.{SignedMillimetres}
 use Rattle.ground.specs.declared.quantity.MetresPerHour.{MetresPerHour}
 use Rattle.ground.specs.declared.quantity.SignedMetresPerHour.{SignedMetresPerHour}
-use Rattle.ground.specs.declared.quantity.Confidence.{Confidence}
-use Rattle.ground.specs.declared.quantity.UncertaintySpeed.{UncertaintySpeed}
 use Rattle.ground.specs.declared.code.LatitudeCode.{LatitudeCode}
 use Rattle.ground.specs.declared.code.LongitudeCode.{LongitudeCode}
 use Rattle.ground.specs.declared.code.UncertaintyCode.{UncertaintyCode}
@@ -23,28 +21,15 @@ use Rattle.ground.specs.declared.code.HorizontalSpeedCode.{HorizontalSpeedCode}
 use Rattle.ground.specs.declared.code.VerticalSpeedCode.{VerticalSpeedCode}
 use Rattle.ground.specs.declared.code.UncertaintySpeedCode.{UncertaintySpeedCode}
 use Rattle.ground.specs.declared.code.ConfidenceCode.{ConfidenceCode}
-use Rattle.coordinates.specs.declared.latitudes.LatitudeCoded.{LatitudeCoded}
-use Rattle.coordinates.specs.declared.longitudes.LongitudeCoded.{LongitudeCoded}
-use Rattle.coordinates.specs.declared.CoordinateReported.{CoordinateReported}
-use Rattle.radii.specs.declared.UncertaintyCoded.{UncertaintyCoded}
-use Rattle.radii.specs.declared.AltitudeUncertaintyCoded.{AltitudeUncertaintyCoded}
-use Rattle.radii.specs.declared.RadiusReported.{RadiusReported}
-use Rattle.angles.specs.declared.OffsetCoded.{OffsetCoded}
-use Rattle.angles.specs.declared.IncludedCoded.{IncludedCoded}
-use Rattle.angles.specs.declared.OrientationCoded.{OrientationCoded}
-use Rattle.angles.specs.declared.BearingCoded.{BearingCoded}
-use Rattle.angles.specs.declared.AngleReported.{AngleReported}
-use Rattle.lengths.specs.declared.AltitudeReported.{AltitudeReported}
-use Rattle.speeds.specs.declared.UncertaintySpeedCoded.{UncertaintySpeedCoded}
-use Rattle.confidences.specs.declared.ConfidenceCoded.{ConfidenceCoded}
-use Rattle.confidences.specs.declared.ConfidenceReported.{ConfidenceReported}
-use Rattle.coordinates.specs.Latitude.{LatitudeCoding, LatitudeReporting, said_latitude, said_coordinate}
-use Rattle.coordinates.specs.Longitude.{LongitudeCoding, LongitudeReporting, said_longitude}
-use Rattle.radii.specs.Radii.{UncertaintyCoding, UncertaintyReporting, AltitudeUncertaintyCoding, AltitudeUncertaintyReporting, said_uncertainty, said_altitude_uncertainty, said_radius}
-use Rattle.angles.specs.Angles.{OffsetCoding, OffsetReporting, IncludedCoding, IncludedReporting, OrientationCoding, OrientationReporting, BearingCoding, BearingReporting, said_offset, said_included, said_orientation, said_bearing, said_angle}
-use Rattle.lengths.specs.Lengths.{AltitudeSet, AltitudeReporting, said_altitude, InnerRadiusSet, InnerRadiusReporting}
-use Rattle.speeds.specs.Speeds.{HorizontalSpeedSet, HorizontalSpeedReporting, VerticalSpeedSet, VerticalSpeedReporting, UncertaintySpeedCoding, UncertaintySpeedReporting, said_uncertainty_speed}
-use Rattle.confidences.specs.Confidences.{ConfidenceCoding, ConfidenceReporting, said_confidence_code, said_confidence}
+use Rattle.ground.specs.declared.refusals.Refusal.{Refusal}
+use Rattle.ground.specs.declared.quantity.PerCent.{PerCent}
+use Rattle.coordinates.specs.Latitude.{LatitudeCoding, LatitudeReporting}
+use Rattle.coordinates.specs.Longitude.{LongitudeCoding, LongitudeReporting}
+use Rattle.radii.specs.Radii.{UncertaintyCoding, UncertaintyReporting, AltitudeUncertaintyCoding, AltitudeUncertaintyReporting}
+use Rattle.angles.specs.Angles.{OffsetCoding, OffsetReporting, IncludedCoding, IncludedReporting, OrientationCoding, OrientationReporting, BearingCoding, BearingReporting}
+use Rattle.lengths.specs.Lengths.{AltitudeSet, AltitudeReporting, InnerRadiusSet, InnerRadiusReporting}
+use Rattle.speeds.specs.Speeds.{HorizontalSpeedSet, HorizontalSpeedReporting, VerticalSpeedSet, VerticalSpeedReporting, UncertaintySpeedCoding, UncertaintySpeedReporting}
+use Rattle.confidences.specs.Confidences.{ConfidenceCoding, ConfidenceReporting}
 
 pub data Field : Type 0 where
   latitude : Field
@@ -93,8 +78,8 @@ QuantityOf orientation = Millidegrees
 QuantityOf bearing = Millidegrees
 QuantityOf horizontal_speed = MetresPerHour
 QuantityOf vertical_speed = SignedMetresPerHour
-QuantityOf uncertainty_speed = UncertaintySpeed
-QuantityOf confidence = Confidence
+QuantityOf uncertainty_speed = Option MetresPerHour
+QuantityOf confidence = Option PerCent
 
 -- what coding a quantity says
 abbrev pub Coding : (f : Field) → QuantityOf f → Said (CodeOf f) → Type 0
@@ -137,72 +122,72 @@ Reporting vertical_speed c = Answer (VerticalSpeedReporting c) 7 (255 < c.1)
 Reporting uncertainty_speed c = Answer (UncertaintySpeedReporting c) 7 (255 < c.0)
 Reporting confidence c = ConfidenceReporting c
 
--- ---- what the functions answer: an enum where they may refuse, else the code or the quantity
+-- ---- what the functions answer: a Result where they may refuse, else the code or the quantity
 
 -- the answer of the coder
 abbrev pub CodedOf : Field → Type 0
-CodedOf latitude = LatitudeCoded
-CodedOf longitude = LongitudeCoded
-CodedOf uncertainty = UncertaintyCoded
-CodedOf altitude_uncertainty = AltitudeUncertaintyCoded
+CodedOf latitude = Result LatitudeCode Refusal
+CodedOf longitude = Result LongitudeCode Refusal
+CodedOf uncertainty = Result UncertaintyCode Refusal
+CodedOf altitude_uncertainty = Result AltitudeUncertaintyCode Refusal
 CodedOf altitude = AltitudeCode
 CodedOf inner_radius = InnerRadiusCode
-CodedOf offset = OffsetCoded
-CodedOf included = IncludedCoded
-CodedOf orientation = OrientationCoded
-CodedOf bearing = BearingCoded
+CodedOf offset = Result OffsetCode Refusal
+CodedOf included = Result IncludedCode Refusal
+CodedOf orientation = Result OrientationCode Refusal
+CodedOf bearing = Result BearingCode Refusal
 CodedOf horizontal_speed = HorizontalSpeedCode
 CodedOf vertical_speed = VerticalSpeedCode
-CodedOf uncertainty_speed = UncertaintySpeedCoded
-CodedOf confidence = ConfidenceCoded
+CodedOf uncertainty_speed = Result UncertaintySpeedCode Refusal
+CodedOf confidence = Result ConfidenceCode Refusal
 
 -- what it says
 abbrev pub said_code : (f : Field) → CodedOf f → Said (CodeOf f)
-said_code latitude r = said_latitude r
-said_code longitude r = said_longitude r
-said_code uncertainty r = said_uncertainty r
-said_code altitude_uncertainty r = said_altitude_uncertainty r
+said_code latitude r = said_of r
+said_code longitude r = said_of r
+said_code uncertainty r = said_of r
+said_code altitude_uncertainty r = said_of r
 said_code altitude r = done r
 said_code inner_radius r = done r
-said_code offset r = said_offset r
-said_code included r = said_included r
-said_code orientation r = said_orientation r
-said_code bearing r = said_bearing r
+said_code offset r = said_of r
+said_code included r = said_of r
+said_code orientation r = said_of r
+said_code bearing r = said_of r
 said_code horizontal_speed r = done r
 said_code vertical_speed r = done r
-said_code uncertainty_speed r = said_uncertainty_speed r
-said_code confidence r = said_confidence_code r
+said_code uncertainty_speed r = said_of r
+said_code confidence r = said_of r
 
 -- the answer of the reporter
 abbrev pub ReportedOf : Field → Type 0
-ReportedOf latitude = CoordinateReported
-ReportedOf longitude = CoordinateReported
-ReportedOf uncertainty = RadiusReported
-ReportedOf altitude_uncertainty = RadiusReported
-ReportedOf altitude = AltitudeReported
+ReportedOf latitude = Result Nanodegrees Refusal
+ReportedOf longitude = Result Nanodegrees Refusal
+ReportedOf uncertainty = Result Millimetres Refusal
+ReportedOf altitude_uncertainty = Result Millimetres Refusal
+ReportedOf altitude = Result SignedMillimetres Refusal
 ReportedOf inner_radius = Millimetres
-ReportedOf offset = AngleReported
-ReportedOf included = AngleReported
-ReportedOf orientation = AngleReported
-ReportedOf bearing = AngleReported
+ReportedOf offset = Result Millidegrees Refusal
+ReportedOf included = Result Millidegrees Refusal
+ReportedOf orientation = Result Millidegrees Refusal
+ReportedOf bearing = Result Millidegrees Refusal
 ReportedOf horizontal_speed = MetresPerHour
 ReportedOf vertical_speed = SignedMetresPerHour
-ReportedOf uncertainty_speed = UncertaintySpeed
-ReportedOf confidence = ConfidenceReported
+ReportedOf uncertainty_speed = Option MetresPerHour
+ReportedOf confidence = Result (Option PerCent) Refusal
 
 -- what it says
 abbrev pub said_quantity : (f : Field) → ReportedOf f → Said (QuantityOf f)
-said_quantity latitude r = said_coordinate r
-said_quantity longitude r = said_coordinate r
-said_quantity uncertainty r = said_radius r
-said_quantity altitude_uncertainty r = said_radius r
-said_quantity altitude r = said_altitude r
+said_quantity latitude r = said_of r
+said_quantity longitude r = said_of r
+said_quantity uncertainty r = said_of r
+said_quantity altitude_uncertainty r = said_of r
+said_quantity altitude r = said_of r
 said_quantity inner_radius r = done r
-said_quantity offset r = said_angle r
-said_quantity included r = said_angle r
-said_quantity orientation r = said_angle r
-said_quantity bearing r = said_angle r
+said_quantity offset r = said_of r
+said_quantity included r = said_of r
+said_quantity orientation r = said_of r
+said_quantity bearing r = said_of r
 said_quantity horizontal_speed r = done r
 said_quantity vertical_speed r = done r
 said_quantity uncertainty_speed r = done r
-said_quantity confidence r = said_confidence r
+said_quantity confidence r = said_of r

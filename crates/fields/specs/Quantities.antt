@@ -1,12 +1,10 @@
 -- The quantity reported of a code, as a number: document 01's column "Quantity reported" worked out. That it is the quantity
 -- which reporting promises is a law (`proofs/QuantityLaws.antt`).
-use Rattle.std.specs.Prelude.{cond, ℕ, ◌+◌, ◌-◌, ◌*◌, ◌/◌, ◌<◌, eqb, ℤ}
+use Rattle.std.specs.Prelude.{cond, ℕ, ◌+◌, ◌-◌, ◌*◌, ◌/◌, ◌<◌, eqb, ℤ, Some, None}
 use Rattle.std.proofs.Math.IntN.{sub_ℕ}
 use Rattle.std.specs.Int.Signed.{mag}
 use Rattle.ground.specs.Counts.{angle_codes, bearing_codes, confidence_codes}
 use Rattle.ground.specs.Signs.{signed}
-use Rattle.ground.specs.declared.quantity.UncertaintySpeed.TheVariants as uncertain
-use Rattle.ground.specs.declared.quantity.Confidence.TheVariants as confident
 use Rattle.coordinates.specs.Halves.{up, down}
 use Rattle.radii.specs.Tables.{whole_part}
 use Rattle.fields.specs.Fields.{Field, CodeOf, QuantityOf}
@@ -33,8 +31,8 @@ quantity_of field.orientation c = record { 0 = 1000 * c.0 }
 quantity_of field.bearing c = record { 0 = 1000 * c.0 }
 quantity_of field.horizontal_speed c = record { 0 = 1000 * c.0 }
 quantity_of field.vertical_speed c = record { 0 = signed c.0 (1000 * c.1) }
-quantity_of field.uncertainty_speed c = cond (eqb c.0 255) uncertain.Missing (uncertain.Speed (record { 0 = 1000 * c.0 }))
-quantity_of field.confidence c = cond (eqb c.0 0) confident.Missing (confident.PerCent c.0)
+quantity_of field.uncertainty_speed c = cond (eqb c.0 255) None (Some (record { 0 = 1000 * c.0 }))
+quantity_of field.confidence c = cond (eqb c.0 0) None (Some (record { 0 = c.0 }))
 
 -- a code that its field holds, and that has a quantity
 abbrev pub Held : (f : Field) → CodeOf f → Type 0

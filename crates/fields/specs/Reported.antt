@@ -1,9 +1,7 @@
 -- Document 01's column "Quantity reported", in its own words. That a report is what the column says is a law (`proofs/Column.antt`).
-use Rattle.std.specs.Prelude.{◌≡◌, ℕ, ◌+◌, ◌*◌, ◌≤◌, ℤ, pos, negsuc, Bool, true}
+use Rattle.std.specs.Prelude.{◌≡◌, ℕ, ◌+◌, ◌*◌, ◌≤◌, ℤ, pos, negsuc, Bool, true, Some, None}
 use Rattle.ground.specs.Signs.{signed}
 use Rattle.ground.specs.Sets.{NearestOf, LowestOf}
-use Rattle.ground.specs.declared.quantity.UncertaintySpeed.TheVariants as uncertain
-use Rattle.ground.specs.declared.quantity.Confidence.TheVariants as confident
 use Rattle.coordinates.specs.Latitude.{LatitudeSet}
 use Rattle.coordinates.specs.Longitude.{LongitudeSet}
 use Rattle.radii.specs.Radii.{RadiusCovers, HeightCovers}
@@ -38,7 +36,7 @@ Column field.orientation c x = x.0 ≡ 1000 * c.0
 Column field.bearing c x = x.0 ≡ 1000 * c.0
 Column field.horizontal_speed c x = x.0 ≡ 1000 * c.0
 Column field.vertical_speed c x = x.0 ≡ signed c.0 (1000 * c.1)
-Column field.uncertainty_speed c (uncertain.Speed s) = (c.0 ≤ 254) × (s.0 ≡ 1000 * c.0)
-Column field.uncertainty_speed c uncertain.Missing = c.0 ≡ 255
-Column field.confidence c (confident.PerCent p) = (1 ≤ c.0) × (c.0 ≤ 100) × (p ≡ c.0)
-Column field.confidence c confident.Missing = c.0 ≡ 0
+Column field.uncertainty_speed c (Some s) = (c.0 ≤ 254) × (s.0 ≡ 1000 * c.0)
+Column field.uncertainty_speed c None = c.0 ≡ 255
+Column field.confidence c (Some p) = (1 ≤ c.0) × (c.0 ≤ 100) × (p.0 ≡ c.0)
+Column field.confidence c None = c.0 ≡ 0

@@ -4,8 +4,8 @@ ghost use Rattle.figures.specs.Counting.{Room, After};
 
 use crate::output;
 use crate::tally::Tally;
-use ground::{Confidence, Millidegrees, Millimetres, Nanodegrees, Outcome, SignedMillimetres};
-use requests::{Altitude, AltitudeUncertainty, Horizontal, Request};
+use ground::{Millidegrees, Millimetres, Nanodegrees, PerCent, Refusal, SignedMillimetres};
+use requests::{Horizontal, Request};
 
 const LISTS: u32 = 65536;
 
@@ -31,24 +31,19 @@ fn empty_list_loose(rt: &HostRuntime, tally: Tally) -> Tally
     requires { Room 3 tally }
     ensures { After 3 tally result }
 {
-    let height = Altitude::Asked(SignedMillimetres(100000));
+    let height = Some(SignedMillimetres(100000));
     let circle = Horizontal::Circle(Millimetres(57274));
-    let first = compare_empty(
-        rt,
-        tally,
-        b"point",
-        plain(Altitude::NotAsked, Horizontal::NotAsked),
-    );
+    let first = compare_empty(rt, tally, b"point", plain(None, Horizontal::NotAsked));
     let second = compare_empty(rt, first, b"altitude", plain(height, Horizontal::NotAsked));
-    compare_empty(rt, second, b"circle", plain(Altitude::NotAsked, circle))
+    compare_empty(rt, second, b"circle", plain(None, circle))
 }
 
 fn empty_list_tight(rt: &HostRuntime, tally: Tally) -> Tally
     requires { Room 3 tally }
     ensures { After 3 tally result }
 {
-    let first = compare_empty(rt, tally, b"ellipse", ellipse(Confidence::Missing));
-    let second = compare_empty(rt, first, b"confidence", ellipse(Confidence::PerCent(50)));
+    let first = compare_empty(rt, tally, b"ellipse", ellipse(None));
+    let second = compare_empty(rt, first, b"confidence", ellipse(Some(PerCent(50))));
     compare_empty(rt, second, b"ellipsoid", ellipsoid())
 }
 
@@ -69,9 +64,9 @@ pub fn every_list(rt: &HostRuntime, tally: Tally) -> Tally
     let circle = Horizontal::Circle(Millimetres(57274));
     let zero = Horizontal::Circle(Millimetres(0));
     let largest = Horizontal::Circle(Millimetres(1806627477));
-    let height = plain(Altitude::Asked(SignedMillimetres(100000)), circle);
-    let level = plain(Altitude::Asked(SignedMillimetres(0)), zero);
-    let depth = confident(Altitude::Asked(SignedMillimetres(-1)), largest);
+    let height = plain(Some(SignedMillimetres(100000)), circle);
+    let level = plain(Some(SignedMillimetres(0)), zero);
+    let depth = confident(Some(SignedMillimetres(-1)), largest);
     let first = compare_lists(rt, tally, b"height", height);
     let second = compare_lists(rt, first, b"level", level);
     compare_lists(rt, second, b"depth", depth)
@@ -94,10 +89,8 @@ fn compare_lists(rt: &HostRuntime, tally: Tally, name: &[u8], request: Request) 
 // How many of all lists are answered 9.
 fn lists_without_message(request: Request) -> u32 {
     let mut count: u32 = 0;
-    let mut list: u32 = 0;
-    while list < LISTS {
+    for list in 0..LISTS {
         count += without_message(request, list as u16);
-        list += 1;
     }
     count
 }
@@ -106,10 +99,7 @@ fn lists_without_message(request: Request) -> u32 {
 fn without_message(request: Request, list: u16) -> u32
     ensures { result ≤ 1 }
 {
-    if answer(request, list) == 9 {
-        return 1;
-    }
-    0
+    u32::from(answer(request, list) == 9)
 }
 
 // A 7-octet buffer for a circle: 10, and the buffer is left as it was.
@@ -128,10 +118,9 @@ fn compare_short(rt: &HostRuntime, tally: Tally, name: &[u8], list: u16) -> Tall
 {
     let mut out = BUFFER;
     let circle = Horizontal::Circle(Millimetres(57274));
-    let written = choice::choose(&mut out, plain(Altitude::NotAsked, circle), list);
-    let outcome = written.outcome;
+    let written = choice::choose(&mut out, plain(None, circle), list);
     let named = output::print(rt, tally, name);
-    let answered = output::compare(rt, named, answer_number(outcome), 10);
+    let answered = output::compare(rt, named, answer_number(written), 10);
     compare_buffer(rt, answered, name, &out)
 }
 
@@ -149,15 +138,13 @@ fn compare_buffer(rt: &HostRuntime, tally: Tally, name: &[u8], out: &[u8; 7]) ->
 // The answer's number where there is room for any message.
 fn answer(request: Request, list: u16) -> u64 {
     let mut out = [0; 14];
-    let written = choice::choose(&mut out, request, list);
-    let outcome = written.outcome;
-    answer_number(outcome)
+    answer_number(choice::choose(&mut out, request, list))
 }
 
-fn answer_number(outcome: Outcome) -> u64 {
-    match outcome {
-        Outcome::Done => 0,
-        Outcome::Refused(why) => ground::refusal_number(why),
+fn answer_number(written: Result<usize, Refusal>) -> u64 {
+    match written {
+        Ok(_) => 0,
+        Err(why) => u64::from(why),
     }
 }
 
@@ -169,47 +156,32 @@ fn axes() -> Horizontal {
     }
 }
 
-fn ellipse(confidence: Confidence) -> Request {
-    asking(
-        Altitude::NotAsked,
-        axes(),
-        AltitudeUncertainty::NotAsked,
-        confidence,
-    )
+fn ellipse(confidence: Option<PerCent>) -> Request {
+    asking(None, axes(), None, confidence)
 }
 
 // With all that can be asked.
 fn ellipsoid() -> Request {
-    let height = Altitude::Asked(SignedMillimetres(100000));
-    let unsure = AltitudeUncertainty::Asked(Millimetres(1125));
-    asking(height, axes(), unsure, Confidence::PerCent(50))
+    let height = Some(SignedMillimetres(100000));
+    let unsure = Some(Millimetres(1125));
+    asking(height, axes(), unsure, Some(PerCent(50)))
 }
 
 // With no altitude uncertainty and no confidence.
-fn plain(altitude: Altitude, horizontal: Horizontal) -> Request {
-    asking(
-        altitude,
-        horizontal,
-        AltitudeUncertainty::NotAsked,
-        Confidence::Missing,
-    )
+fn plain(altitude: Option<SignedMillimetres>, horizontal: Horizontal) -> Request {
+    asking(altitude, horizontal, None, None)
 }
 
 // With no altitude uncertainty, and a confidence.
-fn confident(altitude: Altitude, horizontal: Horizontal) -> Request {
-    asking(
-        altitude,
-        horizontal,
-        AltitudeUncertainty::NotAsked,
-        Confidence::PerCent(50),
-    )
+fn confident(altitude: Option<SignedMillimetres>, horizontal: Horizontal) -> Request {
+    asking(altitude, horizontal, None, Some(PerCent(50)))
 }
 
 fn asking(
-    altitude: Altitude,
+    altitude: Option<SignedMillimetres>,
     horizontal: Horizontal,
-    altitude_uncertainty: AltitudeUncertainty,
-    confidence: Confidence,
+    altitude_uncertainty: Option<Millimetres>,
+    confidence: Option<PerCent>,
 ) -> Request {
     Request {
         latitude: Nanodegrees(45000000000),

@@ -35,10 +35,8 @@ pub fn print_octets(rt: &HostRuntime, tally: Tally, s: &[u8; 7]) -> Tally
     ensures { Printed tally result }
 {
     let mut t = print(rt, tally, b" ");
-    let mut i = 0;
-    while i < 7 {
-        t = print_octet(rt, t, s[i]);
-        i += 1;
+    for octet in s {
+        t = print_octet(rt, t, *octet);
     }
     t
 }

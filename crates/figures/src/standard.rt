@@ -4,8 +4,7 @@ ghost use Rattle.figures.specs.Counting.{Room, After, Printed};
 
 use crate::output;
 use crate::tally::Tally;
-use ground::{AltitudeUncertaintyCode, UncertaintyCode};
-use radii::RadiusReported;
+use ground::{AltitudeUncertaintyCode, Millimetres, Refusal, UncertaintyCode};
 
 // The code K, the printed figure in millimetres, and half a unit of its last printed digit.
 #[derive(Clone, Copy)]
@@ -69,16 +68,13 @@ fn compare_all(rt: &HostRuntime, tally: Tally, table: Table, entries: [Entry; 10
     ensures { After 10 tally result }
 {
     let mut t = tally;
-    let mut i: usize = 0;
-    while i < 10 {
-        let entry = entries[i];
+    for entry in entries {
         t = compare(
             rt,
             print_name(rt, t, table),
             entry,
             reported(table, entry.0),
         );
-        i += 1;
     }
     t
 }
@@ -92,7 +88,7 @@ fn print_name(rt: &HostRuntime, tally: Tally, table: Table) -> Tally
     }
 }
 
-fn reported(table: Table, code: u8) -> RadiusReported {
+fn reported(table: Table, code: u8) -> Result<Millimetres, Refusal> {
     match table {
         Table::Uncertainty => radii::reported_uncertainty(UncertaintyCode(code)),
         Table::AltitudeUncertainty => {
@@ -102,7 +98,12 @@ fn reported(table: Table, code: u8) -> RadiusReported {
 }
 
 // The code, what is reported, the printed figure and half its unit.
-fn compare(rt: &HostRuntime, tally: Tally, entry: Entry, reported: RadiusReported) -> Tally
+fn compare(
+    rt: &HostRuntime,
+    tally: Tally,
+    entry: Entry,
+    reported: Result<Millimetres, Refusal>,
+) -> Tally
     requires { Room 1 tally }
     ensures { After 1 tally result }
 {
@@ -114,25 +115,15 @@ fn compare(rt: &HostRuntime, tally: Tally, entry: Entry, reported: RadiusReporte
 }
 
 // What is reported, `-` for a refusal.
-fn print_reported(rt: &HostRuntime, tally: Tally, reported: RadiusReported) -> Tally
+fn print_reported(rt: &HostRuntime, tally: Tally, reported: Result<Millimetres, Refusal>) -> Tally
     ensures { Printed tally result }
 {
     match reported {
-        RadiusReported::Radius(radius) => output::print_number(rt, tally, radius.0 as u64),
-        RadiusReported::Refused(why) => output::print(rt, tally, b" -"),
+        Ok(radius) => output::print_number(rt, tally, radius.0 as u64),
+        Err(_) => output::print(rt, tally, b" -"),
     }
 }
 
-fn agrees(entry: Entry, reported: RadiusReported) -> bool {
-    match reported {
-        RadiusReported::Radius(radius) => distance(radius.0, entry.1) <= entry.2,
-        RadiusReported::Refused(why) => false,
-    }
-}
-
-fn distance(a: u32, b: u32) -> u32 {
-    if a < b {
-        return b - a;
-    }
-    a - b
+fn agrees(entry: Entry, reported: Result<Millimetres, Refusal>) -> bool {
+    reported.is_ok_and(|radius| radius.0.abs_diff(entry.1) <= entry.2)
 }

@@ -1,30 +1,15 @@
 -- The answers that the reader's parts give to a kind, a count and a length are those of the kind's rows.
 use Prim.Native.Nat.{ℕ, ◌+◌, ◌*◌, ◌<◌, ◌≤◌}
-use mathlib.Core.Path.{◌≡◌, refl, sym, subst}
+use mathlib.Core.Path.{◌≡◌, refl}
 use native.Mathlib.Omega.{arith}
 use Rattle.ground.specs.Answers.{unmet, met}
-use Rattle.layout.specs.declared.shape.Kind.{Kind}
-use Rattle.layout.specs.declared.shape.Kind.TheVariants.{Nothing, Polygon}
-use Rattle.layout.specs.Layout.{count, shape_rows}
-use Rattle.layout.specs.Rows.{width_of, length_of}
+use Rattle.layout.specs.declared.shape.Kind.TheVariants.{Polygon}
+use Rattle.layout.specs.Layout.{shape_rows}
 use Rattle.layout.specs.Demands.{TypeKnown}
 use Rattle.layout.proofs.PolygonLaws.{polygon-length}
 use Rattle.forming.specs.Forming.{LengthAnswer, MessageFormAnswer}
 
 module _ (n octets m : ℕ) where
-  unused : {P : Type 0} (w : ℕ) → w ≡ 0 → 0 < w → P
-  unused w e h = absurd (omega arith)
-
-  pub of-kind : (kind k : Kind) → kind ≡ k → MessageFormAnswer k n octets m → MessageFormAnswer kind n octets m
-  of-kind kind k e a = subst (λ (k : Kind). MessageFormAnswer k n octets m) (sym e) a
-
-  pub nothing : (kind : Kind) → kind ≡ Nothing → m ≡ 2 → MessageFormAnswer kind n octets m
-  nothing kind e h = of-kind kind Nothing e (unmet (λ l. absurd (omega arith)) h)
-
-  -- a kind without a count
-  pub by_length : (kind k : Kind) → kind ≡ k → TypeKnown (shape_rows k n) → width_of (shape_rows k n) count ≡ 0 → LengthAnswer (length_of (shape_rows k n)) octets m → MessageFormAnswer kind n octets m
-  by_length kind k e l z a = of-kind kind k e (met l (met (record { least = unused _ z; most = unused _ z }) a))
-
   listed : TypeKnown (shape_rows Polygon n)
   listed = rw (polygon-length n) (omega arith)
 

@@ -1,29 +1,27 @@
 -- From the answers of the reader's parts to its promise.
+use Rattle.std.specs.Prelude.{Ok, Err}
 use Prim.Native.Nat.{ℕ, zero, suc, ◌/◌, ◌%◌, ◌<◌}
 use mathlib.Core.Path.{◌≡◌, refl, ap, sym, subst, ◌∙◌}
 use mathlib.Core.List.{List}
 use native.Mathlib.Omega.{arith}
 use lib.ListN.{length}
-use Rattle.ground.specs.Answers.{number_of, outcome_number, handed, Unless, Else0, met}
+use Rattle.ground.specs.Answers.{number_of, Unless, Else0, met}
 use Rattle.ground.specs.declared.refusals.Refusal.{Refusal}
-use Rattle.ground.specs.declared.refusals.Outcome.{Outcome}
-use Rattle.ground.specs.declared.refusals.Outcome.TheVariants.{Done, Refused}
 use Rattle.ground.proofs.AnswerLaws.{not-0, when-done, unless-as}
 use Rattle.octets.specs.Bits.{bits}
 use Rattle.octets.proofs.BitLaws.{bits-high, bits-low}
 use Rattle.layout.specs.declared.shape.Kind.{Kind}
 use Rattle.layout.specs.declared.shape.Kind.TheVariants.{Nothing, Point, Circle, Ellipse, Polygon, AltitudePoint, AltitudeEllipsoid, Arc}
 use Rattle.layout.specs.declared.shape.Shape.{Shape}
-use Rattle.layout.specs.declared.shape.ShapeRead.{ShapeRead}
 use Rattle.layout.specs.Layout.{MessageField, Row, shape_rows}
 use Rattle.layout.specs.Layout as layout
 use Rattle.layout.specs.Rows.{width_of, read}
 use Rattle.layout.specs.Demands.{Used, CountSound, AnglesSound, ConfidenceSound, ReadAnswer, CodesAnswer}
-use Rattle.layout.specs.Shapes.{kind_of, kind_in, rows_in, shape_in, blank_shape, ReadsShape}
+use Rattle.layout.specs.Shapes.{kind_of, kind_in, rows_in, shape_in, ReadsShape}
 use Rattle.layout.proofs.TidyLaws.{read-in-fields}
 use Rattle.layout.proofs.PolygonLaws.{none_found}
 use Rattle.fetching.specs.Fetching.{rows_for, ShapeOfLength, shape_of_kind}
-use Rattle.forming.specs.Forming.{MessageFormAnswer, ReadingRefused}
+use Rattle.forming.specs.Forming.{MessageFormAnswer}
 
 -- ---- the codes: what is not used reads 0, so a demand on every code is one on those that are used
 
@@ -92,11 +90,8 @@ module _ (s : List ℕ) where
   no-form why some a =
       met some (unless-as (λ l. l) (λ l. l) (unless-as counted count_of (unless-as (λ w. w) (λ w. w) (λ e. absurd (not-0 why e)))) a)
 
-  pub refused-read : (why : Refusal) (r : ShapeRead) → ReadAnswer (rows_in s) s (number_of why) → ReadingRefused why r → ReadsShape s r
-  refused-read why r a h = record {
-    answer = subst (λ (o : Outcome). ReadAnswer (rows_in s) s (outcome_number o)) (sym h.outcome) a;
-    shape = h.shape ∙ sym (ap (λ (o : Outcome). handed o (shape_in s) (blank_shape Nothing)) h.outcome);
-  }
+  pub refused-read : (why : Refusal) → ReadAnswer (rows_in s) s (number_of why) → ReadsShape s (Err why)
+  refused-read why a = record { answer = a; shape = tt }
 
 -- ---- what the parts give for the kind k and the count n of a first octet
 
@@ -112,35 +107,33 @@ starts s first k h e f = record {
   count = ap (λ (o : ℕ). o % 16) e ∙ bits-low s 0 4 4;
 }
 
-module _ (s : List ℕ) (k : Kind) (n : ℕ) (first : Starts s k n) (o : Outcome) (a : MessageFormAnswer k n (length s) (outcome_number o)) where
-  own : (p : Outcome) → o ≡ p → Form s (outcome_number p)
-  own p e =
-      subst (λ (q : Outcome). Form s (outcome_number q)) e
-      (subst (λ (j : Kind). MessageFormAnswer j (bits s 4 4) (length s) (outcome_number o)) first.kind
-      (subst (λ (i : ℕ). MessageFormAnswer k i (length s) (outcome_number o)) first.count a))
+module _ (s : List ℕ) (k : Kind) (n : ℕ) (first : Starts s k n) where
+  own : (m : ℕ) → MessageFormAnswer k n (length s) m → Form s m
+  own m a =
+      subst (λ (j : Kind). MessageFormAnswer j (bits s 4 4) (length s) m) first.kind
+      (subst (λ (i : ℕ). MessageFormAnswer k i (length s) m) first.count a)
 
-  pub form-refused : (why : Refusal) (r : ShapeRead) → o ≡ Refused why → ReadingRefused why r → ReadsShape s r
-  form-refused why r e h = refused-read s why r (no-form s why first.some (own (Refused why) e)) h
+  pub form-refused : (why : Refusal) → MessageFormAnswer k n (length s) (number_of why) → ReadsShape s (Err why)
+  form-refused why a = refused-read s why (no-form s why first.some (own _ a))
 
-  pub of_length : o ≡ Done → ShapeOfLength k s
-  of_length e =
-      let l = when-done _ 2 _ (λ z. absurd (omega arith)) (own Done e) in
-      let n = when-done _ 4 _ (λ z. absurd (omega arith)) l.1 in
-      let w = when-done _ 3 _ (λ z. absurd (omega arith)) n.1 in
-      subst (λ (j : Kind). ShapeOfLength j s) (sym first.kind) w.0
+  module _ (a : MessageFormAnswer k n (length s) 0) where
+    pub of_length : ShapeOfLength k s
+    of_length =
+        let l = when-done _ 2 _ (λ z. absurd (omega arith)) (own 0 a) in
+        let n = when-done _ 4 _ (λ z. absurd (omega arith)) l.1 in
+        let w = when-done _ 3 _ (λ z. absurd (omega arith)) n.1 in
+        subst (λ (j : Kind). ShapeOfLength j s) (sym first.kind) w.0
 
-  -- the record x, and the answer p to its codes
-  module _ (x : Shape) (e : o ≡ Done) (f : x ≡ shape_of_kind k s) (p : Outcome) (c : Codes s x (outcome_number p)) where
-    in-octets : x ≡ shape_in s
-    in-octets = f ∙ ap (λ (j : Kind). shape_of_kind j s) first.kind
+    -- the record x, and the answer to its codes
+    module _ (x : Shape) (f : x ≡ shape_of_kind k s) where
+      in-octets : x ≡ shape_in s
+      in-octets = f ∙ ap (λ (j : Kind). shape_of_kind j s) first.kind
 
-    answered : (q : Outcome) → p ≡ q → ReadAnswer (rows_in s) s (outcome_number q)
-    answered q g =
-        whole s _ first.some (own Done e)
-        (subst (λ (y : Shape). Codes s y (outcome_number q)) in-octets (subst (λ (r : Outcome). Codes s x (outcome_number r)) g c))
+      answered : (m : ℕ) → Codes s x m → ReadAnswer (rows_in s) s m
+      answered m c = whole s m first.some (own 0 a) (subst (λ (y : Shape). Codes s y m) in-octets c)
 
-    pub codes-refused : (why : Refusal) (r : ShapeRead) → p ≡ Refused why → ReadingRefused why r → ReadsShape s r
-    codes-refused why r g h = refused-read s why r (answered (Refused why) g) h
+      pub codes-refused : (why : Refusal) → Codes s x (number_of why) → ReadsShape s (Err why)
+      codes-refused why c = refused-read s why (answered _ c)
 
-    pub done-read : p ≡ Done → ReadsShape s (record { outcome = Done; shape = x })
-    done-read g = record { answer = answered Done g; shape = in-octets }
+      pub done-read : Codes s x 0 → ReadsShape s (Ok x)
+      done-read c = record { answer = answered 0 c; shape = in-octets }

@@ -7,11 +7,16 @@ ghost use Rattle.layout.specs.declared.shape.Kind.TheVariants.{Polygon};
 ghost use Rattle.layout.specs.Demands.{CodesAnswer};
 ghost use Rattle.forming.specs.Forming.{MessageFormAnswer, LengthAnswer};
 
-use ground::{Outcome, Refusal};
+use ground::Refusal;
 use layout::Kind;
 
 // 5 and 6, of the codes in octets.
-pub fn codes_outcome(orientation: u8, offset: u8, included: u8, confidence: u8) -> Outcome
+pub fn codes_outcome(
+    orientation: u8,
+    offset: u8,
+    included: u8,
+    confidence: u8,
+) -> Result<(), Refusal>
     ensures { CodesAnswer orientation offset included confidence (outcome_number result) }
 {
     layout::codes_outcome(
@@ -23,12 +28,12 @@ pub fn codes_outcome(orientation: u8, offset: u8, included: u8, confidence: u8) 
 }
 
 // 2, 4 and 3, of so many octets; n is a polygon's count.
-pub fn form(length: usize, kind: Kind, n: u8) -> Outcome
+pub fn form(length: usize, kind: Kind, n: u8) -> Result<(), Refusal>
     requires { n < 16 }
     ensures { MessageFormAnswer kind n length (outcome_number result) }
 {
     match kind {
-        Kind::Nothing => Outcome::Refused(Refusal::UnknownType),
+        Kind::Nothing => Err(Refusal::UnknownType),
         Kind::Point => of_length(length, 7),
         Kind::Circle => of_length(length, 8),
         Kind::Ellipse => of_length(length, 11),
@@ -40,27 +45,27 @@ pub fn form(length: usize, kind: Kind, n: u8) -> Outcome
 }
 
 // 3, of a kind whose messages all have one length.
-fn of_length(length: usize, whole: usize) -> Outcome
+fn of_length(length: usize, whole: usize) -> Result<(), Refusal>
     ensures { LengthAnswer whole length (outcome_number result) }
 {
     if length == whole {
-        return Outcome::Done;
+        return Ok(());
     }
-    Outcome::Refused(Refusal::WrongLength)
+    Err(Refusal::WrongLength)
 }
 
 // 4 and 3. Four bits hold no count above 15.
 #[tactic(auto, using(crate::proofs::AnswerKinds::polygon_of_wrong_length, crate::proofs::AnswerKinds::polygon_of_its_length))]
-fn polygon(length: usize, n: u8) -> Outcome
+fn polygon(length: usize, n: u8) -> Result<(), Refusal>
     requires { n < 16 }
     ensures { MessageFormAnswer Polygon n length (outcome_number result) }
 {
     let whole = 1 + 6 * (n as usize);
     if n < 3 {
-        return Outcome::Refused(Refusal::PolygonCount);
+        return Err(Refusal::PolygonCount);
     }
     if length != whole {
-        return Outcome::Refused(Refusal::WrongLength);
+        return Err(Refusal::WrongLength);
     }
-    Outcome::Done
+    Ok(())
 }

@@ -60,15 +60,6 @@ four true true false d h = absurd (subst T (sym h) tt)
 four true false c d h = absurd (subst T (sym h) tt)
 four false b c d h = absurd (subst T (sym h) tt)
 
-pub second-fails : (a c d : Bool) → false ≡ (a && false && c && d)
-second-fails true c d = refl
-second-fails false c d = refl
-
-pub third-fails : (a b d : Bool) → false ≡ (a && b && false && d)
-third-fails true true d = refl
-third-fails true false d = refl
-third-fails false b d = refl
-
 pub sound-head : (L version kind : ℕ) → head_sound L version kind ≡ true → Head L version kind
 sound-head L version kind h =
     let f = four (leb 2 L) (leb L 93) (eqb version 1) (leb kind 1) h in

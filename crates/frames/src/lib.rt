@@ -45,16 +45,7 @@ pub fn next_frame(s: &[u8], last: bool) -> Frame
 fn head_sound(length: usize, version: u8, kind: u8) -> bool
     ensures { result ≡ head_sound length version kind }
 {
-    if length < 2 {
-        return false;
-    }
-    if 93 < length {
-        return false;
-    }
-    if version != 1 {
-        return false;
-    }
-    kind <= 1
+    2 <= length && length <= 93 && version == 1 && kind <= 1
 }
 
 fn wide(octet: u8) -> usize

@@ -4,9 +4,8 @@ use mathlib.Core.Path.{◌≡◌, refl, sym, ap, ◌∙◌}
 use mathlib.Core.Bool.{Bool, true, false, not}
 use Prim.Native.Nat.{ℕ}
 use native.Mathlib.Omega.{arith}
-use Rattle.ground.specs.Answers.{number_of, refusal_of, outcome_number, Unless, unmet, met, Else0, Decides, Said, done, refused, Answer}
-use Rattle.ground.specs.declared.refusals.Outcome.{Outcome}
-use Rattle.ground.specs.declared.refusals.Outcome.TheVariants as outcome
+use Rattle.ground.specs.Answers.{number_of, refusal_of, outcome_number, Unless, unmet, met, Else0, Decides, Said, done, refused, said_of, Answer}
+use Rattle.std.specs.Prelude.{Result, Ok, Err, IfOk}
 use Rattle.ground.specs.declared.refusals.Refusal.{Refusal}
 use Rattle.ground.specs.declared.refusals.Refusal.TheVariants.{NoOctets, UnknownType, WrongLength, PolygonCount, AngleCode, ConfidenceTooLarge, OutOfRange, UncertaintyTooLarge, NoneHolds, BufferTooShort, FrameBroken}
 
@@ -24,6 +23,9 @@ said-one e = cc
 
 pub done-not-refused : {A : Type 0} {a : A} {n : ℕ} → ◌≡◌ {A = Said A} (done a) (refused n) → ⊥
 done-not-refused e = let z : ◌≡◌ {A = ℕ} 0 1 = cc in omega arith
+
+pub refused-one : {A : Type 0} {m n : ℕ} → ◌≡◌ {A = Said A} (refused m) (refused n) → m ≡ n
+refused-one e = cc
 
 pub refusal-back : (why : Refusal) → refusal_of (number_of why) ≡ why
 refusal-back NoOctets = refl
@@ -56,15 +58,30 @@ not-0 BufferTooShort e = absurd (omega arith)
 not-0 FrameBroken e = absurd (omega arith)
 
 -- an outcome is told by its number
-pub outcome-one : (a b : Outcome) → outcome_number a ≡ outcome_number b → a ≡ b
-outcome-one outcome.Done outcome.Done e = refl
-outcome-one outcome.Done (outcome.Refused why) e = absurd (not-0 why (sym e))
-outcome-one (outcome.Refused why) outcome.Done e = absurd (not-0 why e)
-outcome-one (outcome.Refused a) (outcome.Refused b) e = ap outcome.Refused (told-by number_of refusal_of refusal-back a b e)
+pub outcome-one : (a b : Result Unit Refusal) → outcome_number a ≡ outcome_number b → a ≡ b
+outcome-one (Ok _) (Ok _) e = refl
+outcome-one (Ok _) (Err why) e = absurd (not-0 why (sym e))
+outcome-one (Err why) (Ok _) e = absurd (not-0 why e)
+outcome-one (Err a) (Err b) e = ap Err (told-by number_of refusal_of refusal-back a b e)
 
 -- a promise that leaves one number leaves one outcome
-pub promised-one : (promise : ℕ → Type 0) → ((a b : ℕ) → promise a → promise b → a ≡ b) → (r q : Outcome) → promise (outcome_number r) → promise (outcome_number q) → r ≡ q
+pub promised-one : (promise : ℕ → Type 0) → ((a b : ℕ) → promise a → promise b → a ≡ b) → (r q : Result Unit Refusal) → promise (outcome_number r) → promise (outcome_number q) → r ≡ q
 promised-one promise one r q p o = outcome-one r q (one (outcome_number r) (outcome_number q) p o)
+
+-- an answer is told by what it says
+pub answer-one : {A : Type 0} (a b : Result A Refusal) → said_of a ≡ said_of b → a ≡ b
+answer-one (Ok a) (Ok b) e = ap Ok (said-one e)
+answer-one (Ok a) (Err why) e = absurd (done-not-refused e)
+answer-one (Err why) (Ok b) e = absurd (done-not-refused (sym e))
+answer-one (Err a) (Err b) e = ap Err (told-by number_of refusal_of refusal-back a b (refused-one e))
+
+-- a promise that leaves one number, and one value of that answer, leaves one answer
+module _ {A : Type 0} (promise : ℕ → Type 0) (number-one : (a b : ℕ) → promise a → promise b → a ≡ b) (value : A → Type 0) (value-one : (x y : A) → value x → value y → x ≡ y) where
+  pub value-told : (r q : Result A Refusal) → promise (outcome_number r) → promise (outcome_number q) → IfOk r value → IfOk q value → r ≡ q
+  value-told (Ok x) (Ok y) p o v w = ap Ok (value-one x y v w)
+  value-told (Ok x) (Err why) p o v w = absurd (not-0 why (sym (number-one _ _ p o)))
+  value-told (Err why) (Ok y) p o v w = absurd (not-0 why (number-one _ _ p o))
+  value-told (Err a) (Err b) p o v w = ap Err (told-by number_of refusal_of refusal-back a b (number-one _ _ p o))
 
 -- with no demand left there is one number
 pub zero_one : (a b : ℕ) → Else0 a → Else0 b → a ≡ b

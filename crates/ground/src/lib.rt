@@ -14,9 +14,9 @@ pub use code::{
     UncertaintyCode, UncertaintySpeedCode, VerticalSpeedCode,
 };
 pub use quantity::{
-    Confidence, MetresPerHour, Millidegrees, Millimetres, Nanodegrees, SignedMetresPerHour,
-    SignedMillimetres, UncertaintySpeed,
+    MetresPerHour, Millidegrees, Millimetres, Nanodegrees, PerCent, SignedMetresPerHour,
+    SignedMillimetres,
 };
-pub use refusals::{Outcome, Refusal, refusal_number};
+pub use refusals::Refusal;
 pub use said::{SaidCode, SaidQuantity, SignedCode};
 pub use signs::{Parts, Whole, joined, taken_apart};

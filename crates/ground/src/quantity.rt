@@ -22,14 +22,6 @@ pub struct MetresPerHour(pub u32);
 #[derive(Clone, Copy)]
 pub struct SignedMetresPerHour(pub i32);
 
+// A confidence; a missing one is `None`, as a missing uncertainty of a speed is.
 #[derive(Clone, Copy)]
-pub enum Confidence {
-    PerCent(u32),
-    Missing,
-}
-
-#[derive(Clone, Copy)]
-pub enum UncertaintySpeed {
-    Speed(MetresPerHour),
-    Missing,
-}
+pub struct PerCent(pub u32);

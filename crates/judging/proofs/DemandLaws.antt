@@ -3,9 +3,8 @@ use Prim.Native.Nat.{ℕ, ◌≤◌, ◌<◌}
 use mathlib.Core.Path.{◌≡◌, refl, sym, subst, ◌∙◌}
 use mathlib.Core.List.{List}
 use native.Mathlib.Omega.{arith}
-use Rattle.ground.specs.Answers.{number_of, Unless, Else0, unmet, met}
-use Rattle.ground.specs.declared.refusals.Refusal.{Refusal}
-use Rattle.ground.proofs.AnswerLaws.{not-0, when-done, unless-as}
+use Rattle.ground.specs.Answers.{Unless, Else0, unmet, met}
+use Rattle.ground.proofs.AnswerLaws.{when-done, unless-as}
 use Rattle.layout.specs.declared.shape.Kind.{Kind}
 use Rattle.layout.specs.declared.shape.Kind.TheVariants.{Nothing, Point, Circle, Ellipse, Polygon, AltitudePoint, AltitudeEllipsoid, Arc}
 use Rattle.layout.specs.Layout.{MessageField, Row, shape_rows}
@@ -111,6 +110,3 @@ module _ {rows : List Row} {value : MessageField → ℕ} where
   whole h r =
       let p = passed h in
       met p.0 (met p.1 (met p.2 (met p.3 r)))
-
-  pub codes-refused : (why : Refusal) → CodesAnswerOf rows value (number_of why) → RecordAnswer rows value (number_of why)
-  codes-refused why = next (next (next (next (λ e. absurd (not-0 why e)))))

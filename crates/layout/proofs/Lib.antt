@@ -17,4 +17,3 @@ pub mod TypeLaws
 pub mod VelocityMessageLaws
 pub mod VelocityTrips
 pub mod WidthLaws
-pub mod WriteLaws

@@ -1,23 +1,22 @@
 -- DEMAND 2 FOR SHAPES, over the promises of reading and writing: for any coder that keeps them.
+use Rattle.std.specs.Prelude.{Result, Ok}
+use Rattle.std.proofs.lemmas.Result.{IfOk-at_ok, IfOk-weaker}
 use Prim.Native.Nat.{ℕ, zero, suc, ◌≤◌, ◌<◌}
 use mathlib.Core.Path.{◌≡◌, refl, ap, sym, subst, ◌∙◌}
 use mathlib.Core.List.{List, ◌++◌}
 use native.Mathlib.Omega.{arith}
 use lib.ListN.{length, take, drop}
-use Rattle.ground.specs.Answers.{outcome_number, handed}
-use Rattle.ground.specs.declared.refusals.Outcome.{Outcome}
-use Rattle.ground.specs.declared.refusals.Outcome.TheVariants.{Done}
+use Rattle.ground.specs.Answers.{outcome_number}
+use Rattle.ground.specs.declared.refusals.Refusal.{Refusal}
 use Rattle.octets.specs.Bits.{bits}
 use Rattle.octets.proofs.BitLaws.{bits-lt}
-use Rattle.layout.specs.declared.Written.{Written}
 use Rattle.layout.specs.declared.shape.Kind.{Kind}
 use Rattle.layout.specs.declared.shape.Kind.TheVariants.{Nothing, Point, Circle, Ellipse, Polygon, AltitudePoint, AltitudeEllipsoid, Arc}
 use Rattle.layout.specs.declared.shape.Shape.{Shape}
-use Rattle.layout.specs.declared.shape.ShapeRead.{ShapeRead}
 use Rattle.layout.specs.Layout.{MessageField, Row, type_number, count, south, latitude, longitude, shape_rows, type_of}
 use Rattle.layout.specs.Rows.{tag, read, length_of, message, spare_zero}
 use Rattle.layout.specs.Demands.{TypeKnown, ReadAnswer, WriteAnswer, Sound}
-use Rattle.layout.specs.Shapes.{kind_of, kind_in, rows_in, shape_in, latitude_of, longitude_of, shape_of, blank_shape, value_of, rows_of, ReadsShape, WritesShape, Fifteen}
+use Rattle.layout.specs.Shapes.{kind_of, kind_in, rows_in, shape_in, latitude_of, longitude_of, shape_of, value_of, rows_of, ReadsShape, WritesShape, Fifteen}
 use Rattle.layout.specs.Messages.{SameButSpare}
 use Rattle.layout.proofs.SpareReading.{spare-numbers, spare-answer}
 use Rattle.layout.proofs.TidyLaws.{read-bits, read-in-fields, read-message}
@@ -144,7 +143,6 @@ shapes = record {
   value = value_of;
   rows_in = rows_in;
   record_in = shape_in;
-  none = blank_shape Nothing;
   Whole = Fifteen;
   tidy_of = λ x. shape-tidy x.kind x.count;
   tidy-in = λ s. shape-tidy (kind_in s) (bits s 4 4);
@@ -182,47 +180,43 @@ module _ (x : Shape) (h : Sound (rows_of x) (value_of x)) where
   unfolding shapes
   record-message = record-sent shapes x h
 
-as_read : (s : List ℕ) (r : ShapeRead) → ReadsShape s r → Read shapes s r.outcome r.shape
+as_read : (s : List ℕ) (r : Result Shape Refusal) → ReadsShape s r → Read shapes s r
 unfolding shapes
 as_read s r h = record { answer = h.answer; handed-back = h.shape }
 
-done-read : (s : List ℕ) (r : ShapeRead) → ReadsShape s r → r.outcome ≡ Done → Read shapes s Done r.shape
-done-read s r h e = subst (λ (o : Outcome). Read shapes s o r.shape) e (as_read s r h)
+done-read : (s : List ℕ) (r : Result Shape Refusal) → ReadsShape s r → (x : Shape) → r ≡ Ok x → Read shapes s (Ok x)
+done-read s r h x e = subst (λ (q : Result Shape Refusal). Read shapes s q) e (as_read s r h)
 
-module _ (s : List ℕ) (r : ShapeRead) (h : ReadsShape s r) (done : r.outcome ≡ Done) where
-  module _ (before after : List ℕ) (w : Written) (writes : WritesShape r.shape before after w) (room : length s ≤ length before) where
+module _ (s : List ℕ) (r : Result Shape Refusal) (h : ReadsShape s r) (x : Shape) (done : r ≡ Ok x) where
+  module _ (before after : List ℕ) (w : Result ℕ Refusal) (writes : WritesShape x before after w) (room : length s ≤ length before) where
     -- every record that the reader hands out is one that the writer takes, room given
-    pub shape-taken : w ≡ record { outcome = Done; length = length s }
+    pub shape-taken : w ≡ Ok (length s)
     unfolding shapes
-    shape-taken = taken shapes s r.shape (done-read s r h done) before after w writes room
+    shape-taken = taken shapes s x (done-read s r h x done) before after w writes room
 
     -- an accepted message written again gives its own octets with the spare bits zero; the other octets keep their values
     pub shape-again : after ≡ spare_zero (rows_in s) s ++ drop (length s) before
     unfolding shapes
-    shape-again = again shapes s r.shape (done-read s r h done) before after w writes room
+    shape-again = again shapes s x (done-read s r h x done) before after w writes room
 
-  pub shape-accepted : WriteAnswer (rows_of r.shape) (value_of r.shape) (length_of (rows_of r.shape)) 0
+  pub shape-accepted : WriteAnswer (rows_of x) (value_of x) (length_of (rows_of x)) 0
   unfolding shapes
-  shape-accepted = accepted shapes s r.shape (done-read s r h done)
+  shape-accepted = accepted shapes s x (done-read s r h x done)
 
   -- its arrays have their fifteen elements
-  pub shape-whole : Fifteen r.shape
-  shape-whole =
-      let e : r.shape ≡ shape_in s = h.shape ∙ ap (λ (o : Outcome). handed o (shape_in s) (blank_shape Nothing)) done in
-      subst Fifteen (sym e) (fifteen-read s)
+  pub shape-whole : Fifteen x
+  shape-whole = subst Fifteen (sym (IfOk-at_ok (λ y. y ≡ shape_in s) done h.shape)) (fifteen-read s)
 
   -- two messages with the same record are the same but for spare bits
-  pub shape-same-but-spare : (t : List ℕ) (q : ShapeRead) → ReadsShape t q → q.outcome ≡ Done → q.shape ≡ r.shape → spare_zero (rows_in s) s ≡ spare_zero (rows_in t) t
+  pub shape-same-but-spare : (t : List ℕ) (q : Result Shape Refusal) → ReadsShape t q → q ≡ Ok x → spare_zero (rows_in s) s ≡ spare_zero (rows_in t) t
   unfolding shapes
-  shape-same-but-spare t q g end e = same-but-spare shapes s r.shape (done-read s r h done) t (subst (λ (x : Shape). Read shapes t Done x) e (done-read t q g end))
+  shape-same-but-spare t q g end = same-but-spare shapes s x (done-read s r h x done) t (done-read t q g x end)
 
 -- a record that the writer takes, written and read, gives that record
-pub shape-back : (x : Shape) (before after : List ℕ) (w : Written) (r : ShapeRead) → Fifteen x → WritesShape x before after w → w.outcome ≡ Done
-    → ReadsShape (take w.length after) r → r ≡ record { outcome = Done; shape = x }
+pub shape-back : (x : Shape) (before after : List ℕ) (w : Result ℕ Refusal) (n : ℕ) (r : Result Shape Refusal) → Fifteen x → WritesShape x before after w → w ≡ Ok n → ReadsShape (take n after) r
+    → r ≡ Ok x
 unfolding shapes
-shape-back x before after w r fifteen writes done h =
-    let e = back shapes x r.shape r.outcome before after w fifteen writes done (as_read (take w.length after) r h) in
-    λ i. record { outcome = e.0 i; shape = e.1 i }
+shape-back x before after w n r fifteen writes done h = back shapes x before after w n r fifteen writes done (as_read (take n after) r h)
 
 -- two strings that differ in spare bits alone get the same answer and the same record
 module _ (s t : List ℕ) (same : SameButSpare (rows_in s) s t) where
@@ -236,11 +230,11 @@ module _ (s t : List ℕ) (same : SameButSpare (rows_in s) s t) where
       ap (λ (rows : List Row). read t rows count) own ∙ ap (λ (number : MessageField → ℕ). number count) (sym (spare-numbers (rows_in s) s t same)) in
       ap (λ (k : Kind). shape_rows k (bits t 4 4)) kinds-same ∙ same_rows (kind_in s) t (read s (rows_in s) count) counted ∙ own
 
-  pub shape-spare : (r : ShapeRead) → ReadsShape s r → ReadsShape t r
+  pub shape-spare : (r : Result Shape Refusal) → ReadsShape s r → ReadsShape t r
   shape-spare r h =
       let numbers : read t (rows_in t) ≡ read s (rows_in s) = ap (read t) rows_same ∙ sym (spare-numbers (rows_in s) s t same) in
       let shapes-same : shape_in t ≡ shape_in s = λ i. shape_of (kinds-same i) (numbers i) in
       record {
-        answer = subst (λ (rows : List Row). ReadAnswer rows t (outcome_number r.outcome)) (sym rows_same) (spare-answer (rows_in s) s t same _ h.answer);
-        shape = h.shape ∙ ap (λ (x : Shape). handed r.outcome x (blank_shape Nothing)) (sym shapes-same);
+        answer = subst (λ (rows : List Row). ReadAnswer rows t (outcome_number r)) (sym rows_same) (spare-answer (rows_in s) s t same _ h.answer);
+        shape = IfOk-weaker r (λ x. x ≡ shape_in s) (λ x. x ≡ shape_in t) (λ x e. e ∙ sym shapes-same) h.shape;
       }

@@ -1,5 +1,6 @@
 -- Demand 2 for any records that rows of the layout table read and write: shapes and velocities are its two uses.
 --
+use Rattle.std.specs.Prelude.{Result, Ok, IfOk}
 use Prim.Native.Nat.{ℕ, ◌≤◌}
 use mathlib.Core.Path.{◌≡◌, refl, ap, sym, subst, ◌∙◌}
 use mathlib.Core.List.{List, ◌++◌}
@@ -7,16 +8,14 @@ use native.Mathlib.Omega.{arith}
 use lib.ListN.{length, take, drop}
 use lib.Seq.{take_at}
 use Rattle.ground.specs.Answers.{outcome_number, handed}
-use Rattle.ground.specs.declared.refusals.Outcome.{Outcome}
-use Rattle.ground.specs.declared.refusals.Outcome.TheVariants.{Done}
-use Rattle.ground.proofs.AnswerLaws.{outcome-one}
-use Rattle.layout.specs.declared.Written.{Written}
+use Rattle.ground.proofs.AnswerLaws.{value-told}
+use Rattle.ground.specs.declared.refusals.Refusal.{Refusal}
 use Rattle.layout.specs.Layout.{MessageField, Row}
 use Rattle.layout.specs.Rows.{read, length_of, message, spare_zero}
 use Rattle.layout.specs.Demands.{CountSound, AnglesSound, ConfidenceSound, ReadAnswer, WriteAnswer, Writes, Sound}
 use Rattle.layout.proofs.TidyLaws.{Tidy, read-in-fields, read-message, written-again, message-length}
 use Rattle.layout.proofs.DemandLaws.{Readable, readable, read_done, sound, write_done}
-use Rattle.layout.proofs.OneMessage.{read-answer-one, write-outcome-one}
+use Rattle.layout.proofs.OneMessage.{read-answer-one, write-answer-one}
 
 -- records of one sort, their rows and numbers, and what is known of them
 pub record Coder (R : Type 0) : Type 1 where
@@ -24,7 +23,6 @@ pub record Coder (R : Type 0) : Type 1 where
   pub value : R → MessageField → ℕ
   pub rows_in : List ℕ → List Row
   pub record_in : List ℕ → R
-  pub none : R
   -- a record whose arrays have all their elements
   pub Whole : R → Type 0
   pub tidy_of : (x : R) → Tidy (rows_of x)
@@ -95,25 +93,26 @@ module _ {R : Type 0} (c : Coder R) where
 
   -- ---- DEMAND 2, over the promises
 
-  -- octets s were answered o, and the record x handed back
-  pub record Read (s : List ℕ) (o : Outcome) (x : R) : Type 0 where
-    pub answer : ReadAnswer (c.rows_in s) s (outcome_number o)
-    pub handed-back : x ≡ handed o (c.record_in s) c.none
+  -- octets s were answered r
+  pub record Read (s : List ℕ) (r : Result R Refusal) : Type 0 where
+    pub answer : ReadAnswer (c.rows_in s) s (outcome_number r)
+    pub handed-back : IfOk r (λ x. x ≡ c.record_in s)
 
-  module _ (s : List ℕ) (x : R) (read-s : Read s Done x) where
+  module _ (s : List ℕ) (x : R) (read-s : Read s (Ok x)) where
     is-readable : Readable (c.rows_in s) s
     is-readable = readable (c.rows_in s) s read-s.answer
 
+    long : length_of (c.rows_of x) ≡ length s
+    long = ap (λ (y : R). length_of (c.rows_of y)) read-s.handed-back ∙ length-in s is-readable
+
     -- every record that is read is one that the writer takes, room given
-    pub taken : (before after : List ℕ) (w : Written) → Writes (c.rows_of x) (c.value x) before after w → length s ≤ length before → w ≡ record { outcome = Done; length = length s }
+    pub taken : (before after : List ℕ) (w : Result ℕ Refusal) → Writes (c.rows_of x) (c.value x) before after w → length s ≤ length before → w ≡ Ok (length s)
     taken before after w writes room =
-        let e = read-s.handed-back in
         let answer : WriteAnswer (c.rows_of x) (c.value x) (length before) 0 =
-        subst (λ (y : R). WriteAnswer (c.rows_of y) (c.value y) (length before) 0) (sym e)
+        subst (λ (y : R). WriteAnswer (c.rows_of y) (c.value y) (length before) 0) (sym read-s.handed-back)
         (write_done _ _ (length before) (sound-in s is-readable) (rw (length-in s is-readable) room)) in
-        let o : w.outcome ≡ Done = write-outcome-one (c.rows_of x) (c.value x) (length before) w.outcome Done writes.answer answer in
-        let l = writes.written ∙ ap (λ (q : Outcome). handed q (length_of (c.rows_of x)) 0) o ∙ ap (λ (y : R). length_of (c.rows_of y)) e ∙ length-in s is-readable in
-        λ i. record { outcome = o i; length = l i }
+        value-told (WriteAnswer (c.rows_of x) (c.value x) (length before)) (write-answer-one (c.rows_of x) (c.value x) (length before))
+        (λ n. n ≡ length_of (c.rows_of x)) (λ m n e f. e ∙ sym f) w (Ok (length s)) writes.answer answer writes.written (sym long)
 
     pub accepted : WriteAnswer (c.rows_of x) (c.value x) (length_of (c.rows_of x)) 0
     accepted =
@@ -121,33 +120,32 @@ module _ {R : Type 0} (c : Coder R) where
         (write_done _ _ _ (sound-in s is-readable) (omega arith))
 
     -- written again, a message gives its own octets with the spare bits zero, and the rest of the buffer as it was
-    pub again : (before after : List ℕ) (w : Written) → Writes (c.rows_of x) (c.value x) before after w → length s ≤ length before → after ≡ spare_zero (c.rows_in s) s ++ drop (length s) before
+    pub again : (before after : List ℕ) (w : Result ℕ Refusal) → Writes (c.rows_of x) (c.value x) before after w → length s ≤ length before → after ≡ spare_zero (c.rows_in s) s ++ drop (length s) before
     again before after w writes room =
         let e = read-s.handed-back in
         writes.buffer
-        ∙ ap (λ (v : Written). handed v.outcome (message (c.rows_of x) (c.value x) ++ drop (length_of (c.rows_of x)) before) before) (taken before after w writes room)
+        ∙ ap (λ (v : Result ℕ Refusal). handed v (message (c.rows_of x) (c.value x) ++ drop (length_of (c.rows_of x)) before) before) (taken before after w writes room)
         ∙ ap (λ (y : R). message (c.rows_of y) (c.value y) ++ drop (length_of (c.rows_of y)) before) e
         ∙ ap (λ (m : List ℕ). m ++ drop (length_of (c.rows_of (c.record_in s))) before) (message-in s is-readable)
         ∙ ap (λ (n : ℕ). spare_zero (c.rows_in s) s ++ drop n before) (length-in s is-readable)
 
     -- two messages of one record are the same but for spare bits
-    pub same-but-spare : (t : List ℕ) → Read t Done x → spare_zero (c.rows_in s) s ≡ spare_zero (c.rows_in t) t
+    pub same-but-spare : (t : List ℕ) → Read t (Ok x) → spare_zero (c.rows_in s) s ≡ spare_zero (c.rows_in t) t
     same-but-spare t read-t =
         sym (message-in s is-readable)
         ∙ ap (λ (y : R). message (c.rows_of y) (c.value y)) (sym read-s.handed-back ∙ read-t.handed-back)
         ∙ message-in t (readable (c.rows_in t) t read-t.answer)
 
   -- a record that is written, and read from the octets of its message, is that record
-  pub back : (x y : R) (o : Outcome) (before after : List ℕ) (w : Written) → c.Whole x → Writes (c.rows_of x) (c.value x) before after w → w.outcome ≡ Done
-      → Read (take w.length after) o y → (o ≡ Done) × (y ≡ x)
-  back x y o before after w whole writes done read-t =
-      let h = sound (c.rows_of x) (c.value x) (length before) (subst (λ (q : Outcome). WriteAnswer (c.rows_of x) (c.value x) (length before) (outcome_number q)) done writes.answer) in
+  pub back : (x : R) (before after : List ℕ) (w : Result ℕ Refusal) (n : ℕ) (r : Result R Refusal) → c.Whole x → Writes (c.rows_of x) (c.value x) before after w → w ≡ Ok n → Read (take n after) r
+      → r ≡ Ok x
+  back x before after w n r whole writes done read-t =
+      let own : Writes (c.rows_of x) (c.value x) before after (Ok n) = subst (λ (v : Result ℕ Refusal). Writes (c.rows_of x) (c.value x) before after v) done writes in
+      let h = (sound (c.rows_of x) (c.value x) (length before) own.answer).0 in
       let m = message (c.rows_of x) (c.value x) in
-      let l : w.length ≡ length_of (c.rows_of x) = writes.written ∙ ap (λ (q : Outcome). handed q (length_of (c.rows_of x)) 0) done in
-      let b : after ≡ m ++ drop (length_of (c.rows_of x)) before = writes.buffer ∙ ap (λ (q : Outcome). handed q (m ++ drop (length_of (c.rows_of x)) before) before) done in
-      let t : take w.length after ≡ m =
-      ap (λ (n : ℕ). take n after) l ∙ ap (λ (a : List ℕ). take (length_of (c.rows_of x)) a) b
+      let t : take n after ≡ m =
+      ap (λ (k : ℕ). take k after) own.written ∙ ap (λ (a : List ℕ). take (length_of (c.rows_of x)) a) own.buffer
       ∙ take_at m (drop (length_of (c.rows_of x)) before) (length_of (c.rows_of x)) (message-length (c.rows_of x) (c.value x)) in
-      let r : Read m o y = subst (λ (s : List ℕ). Read s o y) t read-t in
-      let e : o ≡ Done = outcome-one o Done (read-answer-one (c.rows_in m) m _ 0 r.answer (read_done (c.rows_in m) m (readable-sent x h.0))) in
-      (e, r.handed-back ∙ ap (λ (q : Outcome). handed q (c.record_in m) c.none) e ∙ record-sent x h.0 whole)
+      let read-m : Read m r = subst (λ (s : List ℕ). Read s r) t read-t in
+      value-told (ReadAnswer (c.rows_in m) m) (read-answer-one (c.rows_in m) m) (λ y. y ≡ c.record_in m) (λ y z e f. e ∙ sym f)
+      r (Ok x) read-m.answer (read_done (c.rows_in m) m (readable-sent x h)) read-m.handed-back (sym (record-sent x h whole))

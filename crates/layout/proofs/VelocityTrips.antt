@@ -1,23 +1,22 @@
 -- DEMAND 2 FOR VELOCITIES, as for shapes.
+use Rattle.std.specs.Prelude.{Result, Ok}
+use Rattle.std.proofs.lemmas.Result.{IfOk-weaker}
 use Prim.Native.Nat.{ℕ, zero, suc, ◌^◌, ◌≤◌, ◌<◌}
 use mathlib.Core.Path.{◌≡◌, refl, ap, sym, subst, ◌∙◌}
 use mathlib.Core.List.{List, ◌++◌}
 use native.Mathlib.Omega.{arith}
 use lib.ListN.{length, take, drop}
-use Rattle.ground.specs.Answers.{outcome_number, handed}
-use Rattle.ground.specs.declared.refusals.Outcome.{Outcome}
-use Rattle.ground.specs.declared.refusals.Outcome.TheVariants.{Done}
+use Rattle.ground.specs.Answers.{outcome_number}
+use Rattle.ground.specs.declared.refusals.Refusal.{Refusal}
 use Rattle.octets.specs.Bits.{bits}
-use Rattle.layout.specs.declared.Written.{Written}
 use Rattle.layout.specs.declared.velocity.VelocityKind.{VelocityKind}
 use Rattle.layout.specs.declared.velocity.VelocityKind.TheVariants.{Nothing, Horizontal, HorizontalVertical, HorizontalUncertain, HorizontalVerticalUncertain}
 use Rattle.layout.specs.declared.velocity.Velocity.{Velocity}
-use Rattle.layout.specs.declared.velocity.VelocityRead.{VelocityRead}
 use Rattle.layout.specs.Layout.{MessageField, Row, velocity_rows, velocity_type_of}
 use Rattle.layout.specs.Layout as layout
 use Rattle.layout.specs.Rows.{read, length_of, message, spare_zero}
 use Rattle.layout.specs.Demands.{TypeKnown, ReadAnswer, WriteAnswer, Sound}
-use Rattle.layout.specs.Velocities.{velocity_kind_of, velocity_kind_in, velocity_rows_in, velocity_in, velocity_of, blank_velocity, velocity_value_of, ReadsVelocity, WritesVelocity}
+use Rattle.layout.specs.Velocities.{velocity_kind_of, velocity_kind_in, velocity_rows_in, velocity_in, velocity_of, velocity_value_of, ReadsVelocity, WritesVelocity}
 use Rattle.layout.specs.Messages.{SameButSpare}
 use Rattle.layout.proofs.SpareReading.{spare-numbers, spare-answer}
 use Rattle.layout.proofs.TidyLaws.{read-in-fields, read-message}
@@ -119,7 +118,6 @@ velocities = record {
   value = velocity_value_of;
   rows_in = velocity_rows_in;
   record_in = velocity_in;
-  none = blank_velocity Nothing;
   Whole = λ x. Unit {0};
   tidy_of = λ x. velocity-tidy x.kind;
   tidy-in = λ s. velocity-tidy (velocity_kind_in s);
@@ -129,51 +127,49 @@ velocities = record {
   record-back = λ x whole h. record-back x h;
 }
 
-as_read : (s : List ℕ) (r : VelocityRead) → ReadsVelocity s r → Read velocities s r.outcome r.velocity
+as_read : (s : List ℕ) (r : Result Velocity Refusal) → ReadsVelocity s r → Read velocities s r
 unfolding velocities
 as_read s r h = record { answer = h.answer; handed-back = h.velocity }
 
-done-read : (s : List ℕ) (r : VelocityRead) → ReadsVelocity s r → r.outcome ≡ Done → Read velocities s Done r.velocity
-done-read s r h e = subst (λ (o : Outcome). Read velocities s o r.velocity) e (as_read s r h)
+done-read : (s : List ℕ) (r : Result Velocity Refusal) → ReadsVelocity s r → (x : Velocity) → r ≡ Ok x → Read velocities s (Ok x)
+done-read s r h x e = subst (λ (q : Result Velocity Refusal). Read velocities s q) e (as_read s r h)
 
-module _ (s : List ℕ) (r : VelocityRead) (h : ReadsVelocity s r) (done : r.outcome ≡ Done) where
-  module _ (before after : List ℕ) (w : Written) (writes : WritesVelocity r.velocity before after w) (room : length s ≤ length before) where
+module _ (s : List ℕ) (r : Result Velocity Refusal) (h : ReadsVelocity s r) (x : Velocity) (done : r ≡ Ok x) where
+  module _ (before after : List ℕ) (w : Result ℕ Refusal) (writes : WritesVelocity x before after w) (room : length s ≤ length before) where
     -- every record that the reader hands out is one that the writer takes, room given
-    pub velocity-taken : w ≡ record { outcome = Done; length = length s }
+    pub velocity-taken : w ≡ Ok (length s)
     unfolding velocities
-    velocity-taken = taken velocities s r.velocity (done-read s r h done) before after w writes room
+    velocity-taken = taken velocities s x (done-read s r h x done) before after w writes room
 
     -- an accepted message written again gives its own octets with the spare bits zero; the other octets keep their values
     pub velocity-again : after ≡ spare_zero (velocity_rows_in s) s ++ drop (length s) before
     unfolding velocities
-    velocity-again = again velocities s r.velocity (done-read s r h done) before after w writes room
+    velocity-again = again velocities s x (done-read s r h x done) before after w writes room
 
-  pub velocity-accepted : WriteAnswer (velocity_rows r.velocity.kind) (velocity_value_of r.velocity) (length_of (velocity_rows r.velocity.kind)) 0
+  pub velocity-accepted : WriteAnswer (velocity_rows x.kind) (velocity_value_of x) (length_of (velocity_rows x.kind)) 0
   unfolding velocities
-  velocity-accepted = accepted velocities s r.velocity (done-read s r h done)
+  velocity-accepted = accepted velocities s x (done-read s r h x done)
 
   -- two messages with the same record are the same but for spare bits
-  pub velocity-same-but-spare : (t : List ℕ) (q : VelocityRead) → ReadsVelocity t q → q.outcome ≡ Done → q.velocity ≡ r.velocity → spare_zero (velocity_rows_in s) s ≡ spare_zero (velocity_rows_in t) t
+  pub velocity-same-but-spare : (t : List ℕ) (q : Result Velocity Refusal) → ReadsVelocity t q → q ≡ Ok x → spare_zero (velocity_rows_in s) s ≡ spare_zero (velocity_rows_in t) t
   unfolding velocities
-  velocity-same-but-spare t q g end e = same-but-spare velocities s r.velocity (done-read s r h done) t (subst (λ (x : Velocity). Read velocities t Done x) e (done-read t q g end))
+  velocity-same-but-spare t q g end = same-but-spare velocities s x (done-read s r h x done) t (done-read t q g x end)
 
 -- a record that the writer takes, written and read, gives that record
-pub velocity-back : (x : Velocity) (before after : List ℕ) (w : Written) (r : VelocityRead) → WritesVelocity x before after w → w.outcome ≡ Done
-    → ReadsVelocity (take w.length after) r → r ≡ record { outcome = Done; velocity = x }
+pub velocity-back : (x : Velocity) (before after : List ℕ) (w : Result ℕ Refusal) (n : ℕ) (r : Result Velocity Refusal) → WritesVelocity x before after w → w ≡ Ok n → ReadsVelocity (take n after) r
+    → r ≡ Ok x
 unfolding velocities
-velocity-back x before after w r writes done h =
-    let e = back velocities x r.velocity r.outcome before after w tt writes done (as_read (take w.length after) r h) in
-    λ i. record { outcome = e.0 i; velocity = e.1 i }
+velocity-back x before after w n r writes done h = back velocities x before after w n r tt writes done (as_read (take n after) r h)
 
 -- two strings that differ in spare bits alone get the same answer and the same record
 module _ (s t : List ℕ) (same : SameButSpare (velocity_rows_in s) s t) where
-  pub velocity-spare : (r : VelocityRead) → ReadsVelocity s r → ReadsVelocity t r
+  pub velocity-spare : (r : Result Velocity Refusal) → ReadsVelocity s r → ReadsVelocity t r
   velocity-spare r h =
       let kinds : velocity_kind_in t ≡ velocity_kind_in s = ap velocity_kind_of (sym same.types) in
       let rows : velocity_rows_in t ≡ velocity_rows_in s = ap velocity_rows kinds in
       let numbers : read t (velocity_rows_in t) ≡ read s (velocity_rows_in s) = ap (read t) rows ∙ sym (spare-numbers (velocity_rows_in s) s t same) in
       let velocities-same : velocity_in t ≡ velocity_in s = λ i. velocity_of (kinds i) (numbers i) in
       record {
-        answer = subst (λ (rows : List Row). ReadAnswer rows t (outcome_number r.outcome)) (sym rows) (spare-answer (velocity_rows_in s) s t same _ h.answer);
-        velocity = h.velocity ∙ ap (λ (x : Velocity). handed r.outcome x (blank_velocity Nothing)) (sym velocities-same);
+        answer = subst (λ (rows : List Row). ReadAnswer rows t (outcome_number r)) (sym rows) (spare-answer (velocity_rows_in s) s t same _ h.answer);
+        velocity = IfOk-weaker r (λ x. x ≡ velocity_in s) (λ x. x ≡ velocity_in t) (λ x e. e ∙ sym velocities-same) h.velocity;
       }

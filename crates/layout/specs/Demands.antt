@@ -1,8 +1,8 @@
 -- Document 01, "Refusal numbers": what is demanded of a message and of a record, in its order.
-use Rattle.std.specs.Prelude.{◌≡◌, List, ◌++◌, ℕ, ◌^◌, ◌<◌, ◌≤◌, length, drop}
+use Rattle.std.specs.Prelude.{◌≡◌, List, ◌++◌, ℕ, ◌^◌, ◌<◌, ◌≤◌, length, drop, Result, IfOk}
 use Rattle.ground.specs.Answers.{outcome_number, handed, Unless, Else0}
 use Rattle.ground.specs.Counts.{angle_codes, bearing_codes, confidence_codes}
-use Rattle.layout.specs.declared.Written.{Written}
+use Rattle.ground.specs.declared.refusals.Refusal.{Refusal}
 use Rattle.layout.specs.Layout.{MessageField, Row}
 use Rattle.layout.specs.Layout as layout
 use Rattle.layout.specs.Rows.{width_of, read, length_of, message}
@@ -78,7 +78,8 @@ CodesAnswer orientation' offset' included' confidence' =
     Unless ((orientation' < angle_codes) × (offset' < angle_codes) × (included' < angle_codes)) 5 (Unless (confidence' < confidence_codes) 6 Else0)
 
 -- What writing leaves: on 0 the message in the first octets and the others as they were; on a refusal the buffer as it was.
-pub record Writes (rows : List Row) (value : MessageField → ℕ) (before after : List ℕ) (r : Written) : Type 0 where
-  pub answer : WriteAnswer rows value (length before) (outcome_number r.outcome)
-  pub written : r.length ≡ handed r.outcome (length_of rows) 0
-  pub buffer : after ≡ handed r.outcome (message rows value ++ drop (length_of rows) before) before
+-- The answer is how many octets are written.
+pub record Writes (rows : List Row) (value : MessageField → ℕ) (before after : List ℕ) (r : Result ℕ Refusal) : Type 0 where
+  pub answer : WriteAnswer rows value (length before) (outcome_number r)
+  pub written : IfOk r (λ n. n ≡ length_of rows)
+  pub buffer : after ≡ handed r (message rows value ++ drop (length_of rows) before) before

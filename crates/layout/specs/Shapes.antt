@@ -1,15 +1,14 @@
 -- A shape's record against the layout table.
-use Rattle.std.specs.Prelude.{◌≡◌, false, List, [], ◌∷◌, ◌++◌, ℕ, zero, suc, pos, length, get_or}
-use Rattle.ground.specs.Answers.{outcome_number, handed}
+use Rattle.std.specs.Prelude.{◌≡◌, false, List, [], ◌∷◌, ◌++◌, ℕ, zero, suc, pos, length, get_or, Result, IfOk}
+use Rattle.ground.specs.Answers.{outcome_number}
 use Rattle.ground.specs.declared.code.LatitudeCode.{LatitudeCode}
 use Rattle.ground.specs.declared.code.LongitudeCode.{LongitudeCode}
+use Rattle.ground.specs.declared.refusals.Refusal.{Refusal}
 use Rattle.octets.specs.Bits.{bits}
 use Rattle.octets.specs.Codes.{bit_of, sign_of, complement, from_complement}
-use Rattle.layout.specs.declared.Written.{Written}
 use Rattle.layout.specs.declared.shape.Kind.{Kind}
 use Rattle.layout.specs.declared.shape.Kind.TheVariants.{Nothing, Point, Circle, Ellipse, Polygon, AltitudePoint, AltitudeEllipsoid, Arc}
 use Rattle.layout.specs.declared.shape.Shape.{Shape}
-use Rattle.layout.specs.declared.shape.ShapeRead.{ShapeRead}
 use Rattle.layout.specs.Layout.{MessageField, Row, shape_rows, type_of}
 use Rattle.layout.specs.Layout as layout
 use Rattle.layout.specs.Rows.{read}
@@ -56,7 +55,7 @@ shape_with k value n latitudes longitudes = record {
 abbrev pub shape_of : Kind → (MessageField → ℕ) → Shape
 shape_of k value = shape_with k value (value layout.count) (upto 15 (λ i. latitude_of value (suc i))) (upto 15 (λ i. longitude_of value (suc i)))
 
--- the record in which every code is zero, and the record of a refusal
+-- the record in which every code is zero
 abbrev pub blank_shape : Kind → Shape
 blank_shape k = shape_of k (λ f. 0)
 
@@ -113,13 +112,13 @@ rows_in s = shape_rows (kind_in s) (bits s 4 4)
 abbrev pub shape_in : List ℕ → Shape
 shape_in s = shape_of (kind_in s) (read s (rows_in s))
 
-pub record ReadsShape (s : List ℕ) (r : ShapeRead) : Type 0 where
-  pub answer : ReadAnswer (rows_in s) s (outcome_number r.outcome)
-  pub shape : r.shape ≡ handed r.outcome (shape_in s) (blank_shape Nothing)
+pub record ReadsShape (s : List ℕ) (r : Result Shape Refusal) : Type 0 where
+  pub answer : ReadAnswer (rows_in s) s (outcome_number r)
+  pub shape : IfOk r (λ x. x ≡ shape_in s)
 
 -- the rows of a record
 abbrev pub rows_of : Shape → List Row
 rows_of x = shape_rows x.kind x.count
 
-abbrev pub WritesShape : Shape → List ℕ → List ℕ → Written → Type 0
+abbrev pub WritesShape : Shape → List ℕ → List ℕ → Result ℕ Refusal → Type 0
 WritesShape x = Writes (rows_of x) (value_of x)

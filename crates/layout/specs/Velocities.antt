@@ -1,13 +1,12 @@
 -- A velocity's record against the layout table.
-use Rattle.std.specs.Prelude.{◌≡◌, List, [], ◌∷◌, ℕ, get_or}
-use Rattle.ground.specs.Answers.{outcome_number, handed}
+use Rattle.std.specs.Prelude.{◌≡◌, List, [], ◌∷◌, ℕ, get_or, Result, IfOk}
+use Rattle.ground.specs.Answers.{outcome_number}
+use Rattle.ground.specs.declared.refusals.Refusal.{Refusal}
 use Rattle.octets.specs.Bits.{bits}
 use Rattle.octets.specs.Codes.{bit_of, sign_of}
-use Rattle.layout.specs.declared.Written.{Written}
 use Rattle.layout.specs.declared.velocity.VelocityKind.{VelocityKind}
 use Rattle.layout.specs.declared.velocity.VelocityKind.TheVariants.{Nothing, Horizontal, HorizontalVertical, HorizontalUncertain, HorizontalVerticalUncertain}
 use Rattle.layout.specs.declared.velocity.Velocity.{Velocity}
-use Rattle.layout.specs.declared.velocity.VelocityRead.{VelocityRead}
 use Rattle.layout.specs.Layout.{MessageField, Row, velocity_rows, velocity_type_of}
 use Rattle.layout.specs.Layout as layout
 use Rattle.layout.specs.Rows.{read}
@@ -67,9 +66,9 @@ velocity_rows_in s = velocity_rows (velocity_kind_in s)
 abbrev pub velocity_in : List ℕ → Velocity
 velocity_in s = velocity_of (velocity_kind_in s) (read s (velocity_rows_in s))
 
-pub record ReadsVelocity (s : List ℕ) (r : VelocityRead) : Type 0 where
-  pub answer : ReadAnswer (velocity_rows_in s) s (outcome_number r.outcome)
-  pub velocity : r.velocity ≡ handed r.outcome (velocity_in s) (blank_velocity Nothing)
+pub record ReadsVelocity (s : List ℕ) (r : Result Velocity Refusal) : Type 0 where
+  pub answer : ReadAnswer (velocity_rows_in s) s (outcome_number r)
+  pub velocity : IfOk r (λ x. x ≡ velocity_in s)
 
-abbrev pub WritesVelocity : Velocity → List ℕ → List ℕ → Written → Type 0
+abbrev pub WritesVelocity : Velocity → List ℕ → List ℕ → Result ℕ Refusal → Type 0
 WritesVelocity x = Writes (velocity_rows x.kind) (velocity_value_of x)

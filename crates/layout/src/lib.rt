@@ -7,17 +7,5 @@ mod shape;
 mod velocity;
 
 pub use demand::codes_outcome;
-use ground::Outcome;
-pub use shape::{
-    Kind, Shape, ShapeRead, blank_shape, first_octet, kind_of, message_length, type_number,
-};
-pub use velocity::{
-    Velocity, VelocityKind, VelocityRead, blank_velocity, velocity_kind_of, velocity_type_number,
-};
-
-// What writing a record answers: the number of octets of its message, 0 where it is refused.
-#[derive(Clone, Copy)]
-pub struct Written {
-    pub outcome: Outcome,
-    pub length: usize,
-}
+pub use shape::{Kind, Shape, blank_shape, first_octet, message_length};
+pub use velocity::{Velocity, VelocityKind, blank_velocity};

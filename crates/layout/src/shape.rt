@@ -6,12 +6,12 @@ ghost use Rattle.layout.specs.Shapes.{blank_shape, kind_of};
 
 use ground::{
     AltitudeCode, AltitudeUncertaintyCode, ConfidenceCode, IncludedCode, InnerRadiusCode,
-    LatitudeCode, LongitudeCode, OffsetCode, OrientationCode, Outcome, UncertaintyCode,
+    LatitudeCode, LongitudeCode, OffsetCode, OrientationCode, UncertaintyCode,
 };
 
 #[derive(Clone, Copy)]
 pub enum Kind {
-    // no shape: the record of a refusal
+    // of a number that no shape's type has
     Nothing,
     Point,
     Circle,
@@ -44,12 +44,6 @@ pub struct Shape {
     pub longitudes: [LongitudeCode; 15],
 }
 
-#[derive(Clone, Copy)]
-pub struct ShapeRead {
-    pub outcome: Outcome,
-    pub shape: Shape,
-}
-
 // The record of that kind in which every code is zero.
 pub fn blank_shape(kind: Kind) -> Shape
     ensures { result ≡ blank_shape kind }
@@ -75,34 +69,38 @@ pub fn blank_shape(kind: Kind) -> Shape
 }
 
 // The kind of a type's number.
-pub fn kind_of(number: u8) -> Kind
-    ensures { result ≡ kind_of number }
-{
-    match number {
-        0 => Kind::Point,
-        1 => Kind::Circle,
-        3 => Kind::Ellipse,
-        5 => Kind::Polygon,
-        8 => Kind::AltitudePoint,
-        9 => Kind::AltitudeEllipsoid,
-        10 => Kind::Arc,
-        _ => Kind::Nothing,
+impl From<u8> for Kind {
+    ghost from_gives = { λ number kind. kind ≡ kind_of number };
+
+    fn from(number: u8) -> Kind {
+        match number {
+            0 => Kind::Point,
+            1 => Kind::Circle,
+            3 => Kind::Ellipse,
+            5 => Kind::Polygon,
+            8 => Kind::AltitudePoint,
+            9 => Kind::AltitudeEllipsoid,
+            10 => Kind::Arc,
+            _ => Kind::Nothing,
+        }
     }
 }
 
 // The type's number.
-pub fn type_number(kind: Kind) -> u8
-    ensures { result ≡ type_of kind }
-{
-    match kind {
-        Kind::Nothing => 0,
-        Kind::Point => 0,
-        Kind::Circle => 1,
-        Kind::Ellipse => 3,
-        Kind::Polygon => 5,
-        Kind::AltitudePoint => 8,
-        Kind::AltitudeEllipsoid => 9,
-        Kind::Arc => 10,
+impl From<Kind> for u8 {
+    ghost from_gives = { λ kind number. number ≡ type_of kind };
+
+    fn from(kind: Kind) -> u8 {
+        match kind {
+            Kind::Nothing => 0,
+            Kind::Point => 0,
+            Kind::Circle => 1,
+            Kind::Ellipse => 3,
+            Kind::Polygon => 5,
+            Kind::AltitudePoint => 8,
+            Kind::AltitudeEllipsoid => 9,
+            Kind::Arc => 10,
+        }
     }
 }
 
@@ -110,7 +108,7 @@ pub fn type_number(kind: Kind) -> u8
 pub fn first_octet(kind: Kind) -> u8
     ensures { result ≡ 16 * type_of kind }
 {
-    16 * type_number(kind)
+    16 * u8::from(kind)
 }
 
 // The length of a kind's message; n is a polygon's count.

@@ -3,11 +3,11 @@ ghost use Rattle.std.specs.Prelude.{◌≡◌};
 ghost use Rattle.layout.specs.Layout.{velocity_type_of};
 ghost use Rattle.layout.specs.Velocities.{blank_velocity, velocity_kind_of};
 
-use ground::{BearingCode, HorizontalSpeedCode, Outcome, UncertaintySpeedCode, VerticalSpeedCode};
+use ground::{BearingCode, HorizontalSpeedCode, UncertaintySpeedCode, VerticalSpeedCode};
 
 #[derive(Clone, Copy)]
 pub enum VelocityKind {
-    // no velocity: the record of a refusal
+    // of a number that no velocity's type has
     Nothing,
     Horizontal,
     HorizontalVertical,
@@ -25,12 +25,6 @@ pub struct Velocity {
     pub vertical_uncertainty: UncertaintySpeedCode,
 }
 
-#[derive(Clone, Copy)]
-pub struct VelocityRead {
-    pub outcome: Outcome,
-    pub velocity: Velocity,
-}
-
 // The record of that kind in which every code is zero.
 pub fn blank_velocity(kind: VelocityKind) -> Velocity
     ensures { result ≡ blank_velocity kind }
@@ -46,27 +40,31 @@ pub fn blank_velocity(kind: VelocityKind) -> Velocity
 }
 
 // The kind of a type's number.
-pub fn velocity_kind_of(number: u8) -> VelocityKind
-    ensures { result ≡ velocity_kind_of number }
-{
-    match number {
-        0 => VelocityKind::Horizontal,
-        1 => VelocityKind::HorizontalVertical,
-        2 => VelocityKind::HorizontalUncertain,
-        3 => VelocityKind::HorizontalVerticalUncertain,
-        _ => VelocityKind::Nothing,
+impl From<u8> for VelocityKind {
+    ghost from_gives = { λ number kind. kind ≡ velocity_kind_of number };
+
+    fn from(number: u8) -> VelocityKind {
+        match number {
+            0 => VelocityKind::Horizontal,
+            1 => VelocityKind::HorizontalVertical,
+            2 => VelocityKind::HorizontalUncertain,
+            3 => VelocityKind::HorizontalVerticalUncertain,
+            _ => VelocityKind::Nothing,
+        }
     }
 }
 
 // The type's number.
-pub fn velocity_type_number(kind: VelocityKind) -> u8
-    ensures { result ≡ velocity_type_of kind }
-{
-    match kind {
-        VelocityKind::Nothing => 0,
-        VelocityKind::Horizontal => 0,
-        VelocityKind::HorizontalVertical => 1,
-        VelocityKind::HorizontalUncertain => 2,
-        VelocityKind::HorizontalVerticalUncertain => 3,
+impl From<VelocityKind> for u8 {
+    ghost from_gives = { λ kind number. number ≡ velocity_type_of kind };
+
+    fn from(kind: VelocityKind) -> u8 {
+        match kind {
+            VelocityKind::Nothing => 0,
+            VelocityKind::Horizontal => 0,
+            VelocityKind::HorizontalVertical => 1,
+            VelocityKind::HorizontalUncertain => 2,
+            VelocityKind::HorizontalVerticalUncertain => 3,
+        }
     }
 }

@@ -7,12 +7,6 @@ use ground::{
     AltitudeCode, InnerRadiusCode, Millimetres, Parts, Refusal, SignedMillimetres, Whole,
 };
 
-#[derive(Clone, Copy)]
-pub enum AltitudeReported {
-    Altitude(SignedMillimetres),
-    Refused(Refusal),
-}
-
 pub fn altitude_code(altitude: SignedMillimetres) -> AltitudeCode
     ensures { AltitudeSet result altitude.0 }
 {
@@ -24,18 +18,18 @@ pub fn altitude_code(altitude: SignedMillimetres) -> AltitudeCode
     AltitudeCode(parts.negative, metres as u16)
 }
 
-pub fn reported_altitude(code: AltitudeCode) -> AltitudeReported
+pub fn reported_altitude(code: AltitudeCode) -> Result<SignedMillimetres, Refusal>
     ensures { ReportedAltitude code result }
 {
     let n = code.1;
     if 32767 < n {
-        return AltitudeReported::Refused(Refusal::OutOfRange);
+        return Err(Refusal::OutOfRange);
     }
     let altitude = ground::joined(Parts {
         negative: code.0,
         size: n as u64 * 1000,
     });
-    AltitudeReported::Altitude(SignedMillimetres(altitude.0 as i32))
+    Ok(SignedMillimetres(altitude.0 as i32))
 }
 
 pub fn inner_radius_code(radius: Millimetres) -> InnerRadiusCode

@@ -1,4 +1,5 @@
 -- Two lots of numbers that are answered alike: the same, or the one cut at what its codes hold.
+use Rattle.std.specs.Prelude.{Result, Ok, Err}
 use Prim.Native.Nat.{ℕ, ◌≤◌, ◌<◌}
 use mathlib.Core.Path.{◌≡◌, refl, sym, subst, ◌∙◌}
 use mathlib.Core.Bool.{Bool, true, false, cond}
@@ -8,10 +9,8 @@ use lib.Dec.{ltb}
 use lib.ListN.{length, drop}
 use borrow.Author.Tests.{ltb-true, ltb-false}
 use Rattle.ground.specs.Answers.{outcome_number, handed, Unless, unmet, met}
-use Rattle.ground.specs.declared.refusals.Outcome.{Outcome}
-use Rattle.ground.specs.declared.refusals.Outcome.TheVariants.{Done, Refused}
 use Rattle.ground.proofs.AnswerLaws.{not-0}
-use Rattle.layout.specs.declared.Written.{Written}
+use Rattle.ground.specs.declared.refusals.Refusal.{Refusal}
 use Rattle.layout.specs.Layout.{MessageField, Row}
 use Rattle.layout.specs.Layout as layout
 use Rattle.layout.specs.Rows.{tag, width_of, length_of, message}
@@ -22,23 +21,23 @@ use Rattle.code_arrays.specs.Answers.{else_out_of_range}
 -- ---- the same numbers, where the type is listed
 
 -- 2 refuses
-refused-alike : {A : Type 0} (o : Outcome) (x y before : A) → outcome_number o ≡ 2 → handed o x before ≡ handed o y before
-refused-alike Done x y before e = absurd (omega arith)
-refused-alike (Refused why) x y before e = refl
+refused-alike : {V A : Type 0} (r : Result V Refusal) (x y before : A) → outcome_number r ≡ 2 → handed r x before ≡ handed r y before
+refused-alike (Ok v) x y before e = absurd (omega arith)
+refused-alike (Err why) x y before e = refl
 
 module _ (rows : List Row) (value value' : MessageField → ℕ) (same : TypeKnown rows → (f : MessageField) → value f ≡ value' f) where
   pub answer-alike : (room m : ℕ) → WriteAnswer rows value room m → WriteAnswer rows value' room m
   answer-alike room m (unmet p e) = unmet p e
   answer-alike room m (met l a) = subst (λ (v : MessageField → ℕ). WriteAnswer rows v room m) (λ i f. same l f i) (met l a)
 
-  pub writes-alike : (before after : List ℕ) (w : Written) → Writes rows value before after w → Writes rows value' before after w
+  pub writes-alike : (before after : List ℕ) (w : Result ℕ Refusal) → Writes rows value before after w → Writes rows value' before after w
   writes-alike before after w h = by h.answer
     where
-      by : WriteAnswer rows value (length before) (outcome_number w.outcome) → Writes rows value' before after w
+      by : WriteAnswer rows value (length before) (outcome_number w) → Writes rows value' before after w
       by (unmet p e) = record {
         answer = unmet p e;
         written = h.written;
-        buffer = h.buffer ∙ refused-alike w.outcome (message rows value ++ drop (length_of rows) before) (message rows value' ++ drop (length_of rows) before) before e;
+        buffer = h.buffer ∙ refused-alike w (message rows value ++ drop (length_of rows) before) (message rows value' ++ drop (length_of rows) before) before e;
       }
       by (met l a) = subst (λ (v : MessageField → ℕ). Writes rows v before after w) (λ i f. same l f i) h
 
@@ -123,15 +122,15 @@ module _ {rows rows' : List Row} {value value' : MessageField → ℕ} (a : Alik
 
 -- ---- what is in no fields is refused with 7, where nothing comes before it
 
-kept : (o : Outcome) (n : ℕ) → 0 < n → outcome_number o ≡ n → outcome_number (else_out_of_range o) ≡ n
-kept Done n h e = absurd (omega arith)
-kept (Refused why) n h e = e
+kept : (o : Result Unit Refusal) (n : ℕ) → 0 < n → outcome_number o ≡ n → outcome_number (else_out_of_range o) ≡ n
+kept (Ok _) n h e = absurd (omega arith)
+kept (Err why) n h e = e
 
-otherwise : (o : Outcome) → outcome_number o ≡ 0 → outcome_number (else_out_of_range o) ≡ 7
-otherwise Done e = refl
-otherwise (Refused why) e = absurd (not-0 why e)
+otherwise : (o : Result Unit Refusal) → outcome_number o ≡ 0 → outcome_number (else_out_of_range o) ≡ 7
+otherwise (Ok _) e = refl
+otherwise (Err why) e = absurd (not-0 why e)
 
-module _ (o : Outcome) where
+module _ (o : Result Unit Refusal) where
   demand-alike : {P Q : Type 0} {n : ℕ} {A B : ℕ → Type 0} → 0 < n → (P → Q) → (Q → P) → (A (outcome_number o) → B (outcome_number (else_out_of_range o)))
       → Unless P n A (outcome_number o) → Unless Q n B (outcome_number (else_out_of_range o))
   demand-alike {n = n} h to from others (unmet p e) = unmet (λ q. p (from q)) (kept o n h e)

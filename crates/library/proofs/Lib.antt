@@ -1,4 +1,3 @@
 pub mod AnswerLaws
 pub mod CallLaws
-pub mod RequestLaws
 pub mod VelocityLaws

@@ -1,11 +1,11 @@
 -- A velocity's record that is made of elements is answered as the elements' own numbers are.
+use Rattle.std.specs.Prelude.{Result}
 use Prim.Native.Nat.{ℕ, ◌^◌, ◌<◌}
 use mathlib.Core.Path.{◌≡◌, refl, sym, ap, subst, ◌∙◌}
 use mathlib.Core.List.{List}
 use native.Mathlib.Omega.{arith}
 use Rattle.ground.specs.Answers.{outcome_number}
-use Rattle.ground.specs.declared.refusals.Outcome.{Outcome}
-use Rattle.layout.specs.declared.Written.{Written}
+use Rattle.ground.specs.declared.refusals.Refusal.{Refusal}
 use Rattle.layout.specs.Layout.{MessageField, Row, velocity_rows, velocity_type_of}
 use Rattle.layout.specs.Layout as layout
 use Rattle.layout.specs.Rows.{length_of}
@@ -55,7 +55,7 @@ module _ (elements : List ℕ) where
     value-held l layout.offset = refl
     value-held l layout.included = refl
 
-    pub held-velocity-writes : (before after : List ℕ) (w : Written) → WritesVelocity (held_velocity elements) before after w → Writes (array_velocity_rows elements) (velocity_value_in elements) before after w
+    pub held-velocity-writes : (before after : List ℕ) (w : Result ℕ Refusal) → WritesVelocity (held_velocity elements) before after w → Writes (array_velocity_rows elements) (velocity_value_in elements) before after w
     held-velocity-writes before after w h =
         writes-alike (array_velocity_rows elements) (velocity_value_of (held_velocity elements)) (velocity_value_in elements) value-held before after w
         (subst (λ (rows : List Row). Writes rows (velocity_value_of (held_velocity elements)) before after w) rows-held h)
@@ -99,6 +99,6 @@ module _ (elements : List ℕ) where
         vertical_speed = omega (arith, code layout.vertical_uncertainty);
       }
 
-  pub held-velocity-misfit : (WholeVelocity elements → ⊥) → (o : Outcome) (room : ℕ) → WriteAnswer (velocity_rows (held_velocity elements).kind) (velocity_value_of (held_velocity elements)) (length_of (velocity_rows (held_velocity elements).kind)) (outcome_number o)
+  pub held-velocity-misfit : (WholeVelocity elements → ⊥) → (o : Result Unit Refusal) (room : ℕ) → WriteAnswer (velocity_rows (held_velocity elements).kind) (velocity_value_of (held_velocity elements)) (length_of (velocity_rows (held_velocity elements).kind)) (outcome_number o)
       → WriteAnswer (array_velocity_rows elements) (velocity_value_in elements) room (outcome_number (else_out_of_range o))
   held-velocity-misfit n o room = misfit o alike (λ h. n (whole_of h)) room

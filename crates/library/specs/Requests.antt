@@ -1,27 +1,13 @@
 -- THE REQUEST IN EIGHT ELEMENTS.
-use Rattle.std.specs.Prelude.{◌≡◌, List, ℕ, ◌<◌, ◌^◌, ℤ, pos}
-use Rattle.ground.specs.declared.quantity.Confidence.{Confidence}
-use Rattle.ground.specs.declared.quantity.Confidence.TheVariants as confident
+use Rattle.std.specs.Prelude.{◌≡◌, List, ℕ, ◌<◌, ◌^◌, ℤ, pos, Option, Some, None, Result, Ok, Err}
+use Rattle.ground.specs.declared.quantity.Millimetres.{Millimetres}
+use Rattle.ground.specs.declared.quantity.PerCent.{PerCent}
+use Rattle.ground.specs.declared.quantity.SignedMillimetres.{SignedMillimetres}
 use Rattle.requests.specs.declared.Request.{Request}
-use Rattle.requests.specs.declared.Altitude.{Altitude}
-use Rattle.requests.specs.declared.Altitude.TheVariants as level
 use Rattle.requests.specs.declared.Horizontal.{Horizontal}
 use Rattle.requests.specs.declared.Horizontal.TheVariants as horizontal
-use Rattle.requests.specs.declared.AltitudeUncertainty.{AltitudeUncertainty}
-use Rattle.requests.specs.declared.AltitudeUncertainty.TheVariants as height
-use Rattle.request_lines.specs.declared.request.Asked.{Asked}
-use Rattle.request_lines.specs.declared.request.Asked.TheVariants as asked
-use Rattle.request_lines.specs.declared.request.HorizontalRead.{HorizontalRead}
-use Rattle.request_lines.specs.declared.request.HorizontalRead.TheVariants as area
-use Rattle.request_lines.specs.declared.amounts.Amount.{Amount}
-use Rattle.request_lines.specs.declared.amounts.Amount.TheVariants.{Number, Absent, Unreadable}
+use Rattle.request_lines.specs.declared.Unreadable.{Unreadable}
 use Rattle.code_arrays.specs.QuantityNumbers.{quantity_in, missing, Signed32}
-use Rattle.library.specs.declared.request.AltitudeRead.{AltitudeRead}
-use Rattle.library.specs.declared.request.AltitudeRead.TheVariants as altitude
-use Rattle.library.specs.declared.request.UncertaintyRead.{UncertaintyRead}
-use Rattle.library.specs.declared.request.UncertaintyRead.TheVariants as uncertainty
-use Rattle.library.specs.declared.request.ConfidenceRead.{ConfidenceRead}
-use Rattle.library.specs.declared.request.ConfidenceRead.TheVariants as confidence
 
 -- ---- what an element says
 
@@ -38,9 +24,9 @@ pub record ElementSaysSigned (z x : ℤ) : Type 0 where
 abbrev pub IsMissing : ℤ → Type 0
 IsMissing z = z ≡ missing
 
-abbrev pub ElementSaysAltitude : ℤ → Altitude → Type 0
-ElementSaysAltitude z (level.Asked a) = ElementSaysSigned z a.0
-ElementSaysAltitude z level.NotAsked = IsMissing z
+abbrev pub ElementSaysAltitude : ℤ → Option SignedMillimetres → Type 0
+ElementSaysAltitude z (Some a) = ElementSaysSigned z a.0
+ElementSaysAltitude z None = IsMissing z
 
 -- semi-major, semi-minor, orientation
 abbrev pub ElementsSayHorizontal : ℤ → ℤ → ℤ → Horizontal → Type 0
@@ -48,13 +34,13 @@ ElementsSayHorizontal x y z (horizontal.Circle R) = SaysNatural x R.0 × IsMissi
 ElementsSayHorizontal x y z (horizontal.Ellipse R S a) = SaysNatural x R.0 × SaysNatural y S.0 × SaysNatural z a.0
 ElementsSayHorizontal x y z horizontal.NotAsked = IsMissing x × IsMissing y × IsMissing z
 
-abbrev pub ElementSaysUncertainty : ℤ → AltitudeUncertainty → Type 0
-ElementSaysUncertainty z (height.Asked R) = SaysNatural z R.0
-ElementSaysUncertainty z height.NotAsked = IsMissing z
+abbrev pub ElementSaysUncertainty : ℤ → Option Millimetres → Type 0
+ElementSaysUncertainty z (Some R) = SaysNatural z R.0
+ElementSaysUncertainty z None = IsMissing z
 
-abbrev pub ElementSaysConfidence : ℤ → Confidence → Type 0
-ElementSaysConfidence z (confident.PerCent n) = SaysNatural z n
-ElementSaysConfidence z confident.Missing = IsMissing z
+abbrev pub ElementSaysConfidence : ℤ → Option PerCent → Type 0
+ElementSaysConfidence z (Some p) = SaysNatural z p.0
+ElementSaysConfidence z None = IsMissing z
 
 -- ---- THE PROMISE
 
@@ -68,29 +54,29 @@ pub record ElementsSay (elements : List ℤ) (q : Request) : Type 0 where
   pub confidences : ElementSaysConfidence (quantity_in elements 7) q.confidence
 
 -- the request that the elements say, and unreadable where they say none
-abbrev pub ElementsAsk : List ℤ → Asked → Type 0
-ElementsAsk elements (asked.Request q) = ElementsSay elements q
-ElementsAsk elements asked.Unreadable = (q : Request) → ElementsSay elements q → ⊥
+abbrev pub ElementsAsk : List ℤ → Result Request Unreadable → Type 0
+ElementsAsk elements (Ok q) = ElementsSay elements q
+ElementsAsk elements (Err _) = (q : Request) → ElementsSay elements q → ⊥
 
 -- ---- the parts
 
-abbrev pub ReadsAltitudeElement : ℤ → AltitudeRead → Type 0
-ReadsAltitudeElement z (altitude.Read a) = ElementSaysAltitude z a
-ReadsAltitudeElement z altitude.Unreadable = (a : Altitude) → ElementSaysAltitude z a → ⊥
+abbrev pub ReadsAltitudeElement : ℤ → Result (Option SignedMillimetres) Unreadable → Type 0
+ReadsAltitudeElement z (Ok a) = ElementSaysAltitude z a
+ReadsAltitudeElement z (Err _) = (a : Option SignedMillimetres) → ElementSaysAltitude z a → ⊥
 
-abbrev pub ReadsAmountElement : ℤ → Amount → Type 0
-ReadsAmountElement z (Number n) = SaysNatural z n
-ReadsAmountElement z Absent = IsMissing z
-ReadsAmountElement z Unreadable = (IsMissing z → ⊥) × ((n : ℕ) → SaysNatural z n → ⊥)
+abbrev pub ReadsAmountElement : ℤ → Result (Option ℕ) Unreadable → Type 0
+ReadsAmountElement z (Ok (Some n)) = SaysNatural z n
+ReadsAmountElement z (Ok None) = IsMissing z
+ReadsAmountElement z (Err _) = (IsMissing z → ⊥) × ((n : ℕ) → SaysNatural z n → ⊥)
 
-abbrev pub ReadsHorizontalElements : ℤ → ℤ → ℤ → HorizontalRead → Type 0
-ReadsHorizontalElements x y z (area.Read a) = ElementsSayHorizontal x y z a
-ReadsHorizontalElements x y z area.Unreadable = (a : Horizontal) → ElementsSayHorizontal x y z a → ⊥
+abbrev pub ReadsHorizontalElements : ℤ → ℤ → ℤ → Result Horizontal Unreadable → Type 0
+ReadsHorizontalElements x y z (Ok a) = ElementsSayHorizontal x y z a
+ReadsHorizontalElements x y z (Err _) = (a : Horizontal) → ElementsSayHorizontal x y z a → ⊥
 
-abbrev pub ReadsUncertaintyElement : ℤ → UncertaintyRead → Type 0
-ReadsUncertaintyElement z (uncertainty.Read a) = ElementSaysUncertainty z a
-ReadsUncertaintyElement z uncertainty.Unreadable = (a : AltitudeUncertainty) → ElementSaysUncertainty z a → ⊥
+abbrev pub ReadsUncertaintyElement : ℤ → Result (Option Millimetres) Unreadable → Type 0
+ReadsUncertaintyElement z (Ok a) = ElementSaysUncertainty z a
+ReadsUncertaintyElement z (Err _) = (a : Option Millimetres) → ElementSaysUncertainty z a → ⊥
 
-abbrev pub ReadsConfidenceElement : ℤ → ConfidenceRead → Type 0
-ReadsConfidenceElement z (confidence.Read a) = ElementSaysConfidence z a
-ReadsConfidenceElement z confidence.Unreadable = (a : Confidence) → ElementSaysConfidence z a → ⊥
+abbrev pub ReadsConfidenceElement : ℤ → Result (Option PerCent) Unreadable → Type 0
+ReadsConfidenceElement z (Ok a) = ElementSaysConfidence z a
+ReadsConfidenceElement z (Err _) = (a : Option PerCent) → ElementSaysConfidence z a → ⊥

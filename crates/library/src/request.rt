@@ -4,111 +4,68 @@ ghost use Rattle.std.specs.Prelude.{◌≤◌, length};
 ghost use Rattle.code_arrays.specs.QuantityNumbers.{quantity_in};
 ghost use Rattle.library.specs.Requests.{ElementsAsk, ReadsAltitudeElement, ReadsAmountElement, ReadsHorizontalElements, ReadsUncertaintyElement, ReadsConfidenceElement};
 
-use ground::{Confidence, Millimetres, Nanodegrees, SignedMillimetres, Whole};
-use request_lines::{Amount, Asked, HorizontalRead};
-use requests::{Altitude, AltitudeUncertainty, Request};
-
-#[derive(Clone, Copy)]
-pub enum AltitudeRead {
-    Read(Altitude),
-    Unreadable,
-}
-
-#[derive(Clone, Copy)]
-pub enum UncertaintyRead {
-    Read(AltitudeUncertainty),
-    Unreadable,
-}
-
-#[derive(Clone, Copy)]
-pub enum ConfidenceRead {
-    Read(Confidence),
-    Unreadable,
-}
+use ground::{Millimetres, Nanodegrees, PerCent, SignedMillimetres, Whole};
+use request_lines::Unreadable;
+use requests::{Horizontal, Request};
 
 // The request that the elements say.
-pub fn request_in(given: &[i64]) -> Asked
+pub fn request_in(given: &[i64]) -> Result<Request, Unreadable>
     requires { 8 ≤ length given.now }
     ensures { ElementsAsk given.now result }
 {
-    let latitude = Nanodegrees(given[0]);
-    let longitude = Nanodegrees(given[1]);
-    let AltitudeRead::Read(altitude) = altitude_in(Whole(given[2])) else {
-        return Asked::Unreadable;
-    };
-    let HorizontalRead::Read(horizontal) = horizontal_in(given) else {
-        return Asked::Unreadable;
-    };
-    let UncertaintyRead::Read(altitude_uncertainty) = uncertainty_in(Whole(given[6])) else {
-        return Asked::Unreadable;
-    };
-    let ConfidenceRead::Read(confidence) = confidence_in(Whole(given[7])) else {
-        return Asked::Unreadable;
-    };
-    Asked::Request(Request {
-        latitude,
-        longitude,
-        altitude,
-        horizontal,
-        altitude_uncertainty,
-        confidence,
+    Ok(Request {
+        latitude: Nanodegrees(given[0]),
+        longitude: Nanodegrees(given[1]),
+        altitude: altitude_in(given[2])?,
+        horizontal: horizontal_in(given)?,
+        altitude_uncertainty: uncertainty_in(given[6])?,
+        confidence: confidence_in(given[7])?,
     })
 }
 
-fn altitude_in(element: Whole) -> AltitudeRead
-    ensures { ReadsAltitudeElement element.0 result }
+fn altitude_in(element: i64) -> Result<Option<SignedMillimetres>, Unreadable>
+    ensures { ReadsAltitudeElement element result }
 {
-    if code_arrays::is_missing(element) {
-        return AltitudeRead::Read(Altitude::NotAsked);
+    if code_arrays::is_missing(Whole(element)) {
+        return Ok(None);
     }
-    if !code_arrays::is_signed(element) {
-        return AltitudeRead::Unreadable;
-    }
-    let altitude = code_arrays::signed(element);
-    AltitudeRead::Read(Altitude::Asked(SignedMillimetres(altitude.0)))
+    let Ok(altitude) = i32::try_from(element) else {
+        return Err(Unreadable);
+    };
+    Ok(Some(SignedMillimetres(altitude)))
 }
 
-fn amount_in(element: Whole) -> Amount
-    ensures { ReadsAmountElement element.0 result }
+fn amount_in(element: i64) -> Result<Option<u32>, Unreadable>
+    ensures { ReadsAmountElement element result }
 {
-    if code_arrays::is_missing(element) {
-        return Amount::Absent;
+    if code_arrays::is_missing(Whole(element)) {
+        return Ok(None);
     }
-    if !code_arrays::is_natural(element) {
-        return Amount::Unreadable;
-    }
-    Amount::Number(code_arrays::natural(element))
+    let Ok(amount) = u32::try_from(element) else {
+        return Err(Unreadable);
+    };
+    Ok(Some(amount))
 }
 
 // The horizontal uncertainty, in elements 3, 4 and 5.
-fn horizontal_in(given: &[i64]) -> HorizontalRead
+fn horizontal_in(given: &[i64]) -> Result<Horizontal, Unreadable>
     requires { 8 ≤ length given.now }
     ensures { ReadsHorizontalElements (quantity_in given.now 3) (quantity_in given.now 4) (quantity_in given.now 5) result }
 {
-    let semi_major = amount_in(Whole(given[3]));
-    let semi_minor = amount_in(Whole(given[4]));
-    let orientation = amount_in(Whole(given[5]));
-    request_lines::horizontal_of(semi_major, semi_minor, orientation)
+    let semi_major = amount_in(given[3])?;
+    let semi_minor = amount_in(given[4])?;
+    let orientation = amount_in(given[5])?;
+    request_lines::area_given(semi_major, semi_minor, orientation)
 }
 
-fn uncertainty_in(element: Whole) -> UncertaintyRead
-    ensures { ReadsUncertaintyElement element.0 result }
+fn uncertainty_in(element: i64) -> Result<Option<Millimetres>, Unreadable>
+    ensures { ReadsUncertaintyElement element result }
 {
-    match amount_in(element) {
-        Amount::Number(uncertainty) => {
-            UncertaintyRead::Read(AltitudeUncertainty::Asked(Millimetres(uncertainty)))
-        }
-        Amount::Absent => UncertaintyRead::Read(AltitudeUncertainty::NotAsked),
-        Amount::Unreadable => UncertaintyRead::Unreadable,
-    }
+    Ok(amount_in(element)?.map(Millimetres))
 }
 
-fn confidence_in(element: Whole) -> ConfidenceRead
-    ensures { ReadsConfidenceElement element.0 result }
+fn confidence_in(element: i64) -> Result<Option<PerCent>, Unreadable>
+    ensures { ReadsConfidenceElement element result }
 {
-    match amount_in(element) {
-        Amount::Number(per_cent) => ConfidenceRead::Read(Confidence::PerCent(per_cent)),
-        Amount::Absent => ConfidenceRead::Read(Confidence::Missing),
-        Amount::Unreadable => ConfidenceRead::Unreadable,
-    }
+    Ok(amount_in(element)?.map(PerCent))
 }

@@ -2,22 +2,20 @@
 ghost use Rattle.library.specs.Promises.{ChoosesFrom, CodesOne, ReportsOne};
 
 use crate::request;
-use ground::{Outcome, Refusal, Whole};
-use request_lines::Asked;
+use ground::{Refusal, Whole};
 
 // A request to the octets of the best message on the receiver's list.
 pub fn choose(out: &mut [u8], request: &[i64], list: u16) -> Whole
     ensures { ChoosesFrom request.now list out.old out.new result.0 }
 {
     if request.len() < 8 {
-        return code_arrays::answer(Outcome::Refused(Refusal::WrongLength), 0);
+        return code_arrays::answer(Err(Refusal::WrongLength));
     }
-    let Asked::Request(asked) = request::request_in(request) else {
-        return code_arrays::answer(Outcome::Refused(Refusal::OutOfRange), 0);
+    let Ok(asked) = request::request_in(request) else {
+        return code_arrays::answer(Err(Refusal::OutOfRange));
     };
     let written = choice::choose(out, asked, list);
-    let outcome = written.outcome;
-    code_arrays::answer(outcome, written.length)
+    code_arrays::answer(written)
 }
 
 // The code of one quantity, as its numbers: S or D and N, or N alone.

@@ -1,14 +1,18 @@
 // Velocities: octets, codes and quantities.
 ghost use Rattle.std.specs.Prelude.{◌≤◌, length};
 ghost use Rattle.code_arrays.specs.Answers.{PutsElements};
-ghost use Rattle.ground.specs.Answers.{outcome_number};
-ghost use Rattle.code_arrays.specs.Velocities.{velocity_elements};
+ghost use Rattle.ground.specs.Answers.{outcome_number, outcome_of, value_or};
+ghost use Rattle.layout.specs.declared.velocity.VelocityKind.TheVariants.{Nothing};
+ghost use Rattle.layout.specs.Velocities.{blank_velocity};
+ghost use Rattle.quantities.specs.Velocities.{no_velocity};
+ghost use Rattle.layout.specs.Demands.{Writes};
+ghost use Rattle.code_arrays.specs.Velocities.{velocity_elements, array_velocity_rows, velocity_value_in};
 ghost use Rattle.quantity_arrays.specs.Velocities.{velocity_quantity_elements};
 ghost use Rattle.library.specs.Promises.{ReadsVelocityInto, WritesVelocityFrom, ReportsVelocityFrom, ReportsVelocityIn, CodesVelocityFrom, CodesVelocityIn, KindAnswer};
 
-use ground::{Outcome, Refusal, Whole};
+use ground::{Refusal, Whole};
 use layout::{Velocity, VelocityKind};
-use quantities::{VelocityCoded, VelocityQuantities, VelocityReported};
+use quantities::VelocityQuantities;
 
 const CODES: usize = 7;
 
@@ -19,7 +23,7 @@ pub fn read_velocity(codes: &mut [u32], message: &[u8]) -> Whole
     ensures { ReadsVelocityInto message.now codes.old codes.new result.0 }
 {
     let read = array_reading::read_velocity(codes, message);
-    code_arrays::answer(read, CODES)
+    code_arrays::answer(read.and(Ok(CODES)))
 }
 
 // Codes to octets.
@@ -27,17 +31,10 @@ pub fn write_velocity(out: &mut [u8], codes: &[u32]) -> Whole
     ensures { WritesVelocityFrom codes.now out.old out.new result.0 }
 {
     if codes.len() < CODES {
-        return code_arrays::answer(Outcome::Refused(Refusal::WrongLength), 0);
+        return code_arrays::answer(Err(Refusal::WrongLength));
     }
-    if !code_arrays::velocity_is_whole(codes) {
-        let velocity = code_arrays::velocity_in(codes);
-        let outcome = code_arrays::else_out_of_range(velocities::velocity_outcome(velocity));
-        return code_arrays::answer(outcome, 0);
-    }
-    let velocity = code_arrays::velocity_in(codes);
-    let written = velocities::write_velocity(out, velocity);
-    let outcome = written.outcome;
-    code_arrays::answer(outcome, written.length)
+    let written = write_elements(out, codes);
+    code_arrays::answer(written)
 }
 
 // Codes to quantities.
@@ -45,11 +42,9 @@ pub fn report_velocity(quantities: &mut [i64], codes: &[u32]) -> Whole
     ensures { ReportsVelocityFrom codes.now quantities.old quantities.new result.0 }
 {
     if codes.len() < CODES {
-        return code_arrays::answer(Outcome::Refused(Refusal::WrongLength), 0);
+        return code_arrays::answer(Err(Refusal::WrongLength));
     }
-    let reported = reported_in(codes);
-    let outcome = reported.outcome;
-    put_quantities(quantities, outcome, reported.quantities)
+    put_quantities(quantities, reported_in(codes))
 }
 
 // Quantities to codes.
@@ -57,79 +52,87 @@ pub fn code_velocity(codes: &mut [u32], quantities: &[i64]) -> Whole
     ensures { CodesVelocityFrom quantities.now codes.old codes.new result.0 }
 {
     if quantities.len() < QUANTITIES {
-        return code_arrays::answer(Outcome::Refused(Refusal::WrongLength), 0);
+        return code_arrays::answer(Err(Refusal::WrongLength));
     }
-    let coded = coded_in(quantities);
-    let outcome = coded.outcome;
-    put_codes(codes, outcome, coded.velocity)
+    put_codes(codes, coded_in(quantities))
 }
 
-fn reported_in(codes: &[u32]) -> VelocityReported
+fn write_elements(out: &mut [u8], codes: &[u32]) -> Result<usize, Refusal>
+    requires { 7 ≤ length codes.now }
+    ensures { Writes (array_velocity_rows codes.now) (velocity_value_in codes.now) out.old out.new result }
+{
+    let velocity = code_arrays::velocity_in(codes);
+    if !code_arrays::velocity_is_whole(codes) {
+        velocities::velocity_outcome(velocity)?;
+        return Err(Refusal::OutOfRange);
+    }
+    velocities::write_velocity(out, velocity)
+}
+
+fn reported_in(codes: &[u32]) -> Result<VelocityQuantities, Refusal>
     requires { 7 ≤ length codes.now }
     ensures { ReportsVelocityIn codes.now result }
 {
-    if !code_arrays::velocity_is_whole(codes) {
-        let velocity = code_arrays::velocity_in(codes);
-        return VelocityReported {
-            outcome: code_arrays::else_out_of_range(velocities::velocity_outcome(velocity)),
-            quantities: quantities::no_velocity(),
-        };
-    }
     let velocity = code_arrays::velocity_in(codes);
+    if !code_arrays::velocity_is_whole(codes) {
+        velocities::velocity_outcome(velocity)?;
+        return Err(Refusal::OutOfRange);
+    }
     reports::report_velocity(velocity)
 }
 
-fn coded_in(given: &[i64]) -> VelocityCoded
+fn coded_in(given: &[i64]) -> Result<Velocity, Refusal>
     requires { 6 ≤ length given.now }
     ensures { CodesVelocityIn given.now result }
 {
-    if !quantity_arrays::velocity_arrives(given) {
-        let quantities = quantity_arrays::velocity_quantities_in(given);
-        let kind = quantities.kind;
-        return VelocityCoded {
-            outcome: code_arrays::else_out_of_range(kind_outcome(kind)),
-            velocity: layout::blank_velocity(VelocityKind::Nothing),
-        };
-    }
     let quantities = quantity_arrays::velocity_quantities_in(given);
+    if !quantity_arrays::velocity_arrives(given) {
+        let kind = quantities.kind;
+        kind_outcome(kind)?;
+        return Err(Refusal::OutOfRange);
+    }
     records::code_velocity(quantities)
 }
 
 // 2, of a kind.
-fn kind_outcome(kind: VelocityKind) -> Outcome
+fn kind_outcome(kind: VelocityKind) -> Result<(), Refusal>
     ensures { KindAnswer kind (outcome_number result) }
 {
     match kind {
-        VelocityKind::Nothing => Outcome::Refused(Refusal::UnknownType),
-        VelocityKind::Horizontal => Outcome::Done,
-        VelocityKind::HorizontalVertical => Outcome::Done,
-        VelocityKind::HorizontalUncertain => Outcome::Done,
-        VelocityKind::HorizontalVerticalUncertain => Outcome::Done,
+        VelocityKind::Nothing => Err(Refusal::UnknownType),
+        VelocityKind::Horizontal => Ok(()),
+        VelocityKind::HorizontalVertical => Ok(()),
+        VelocityKind::HorizontalUncertain => Ok(()),
+        VelocityKind::HorizontalVerticalUncertain => Ok(()),
     }
 }
 
-fn put_codes(codes: &mut [u32], outcome: Outcome, velocity: Velocity) -> Whole
-    ensures { PutsElements outcome (velocity_elements velocity) codes.old codes.new result.0 }
+fn put_codes(codes: &mut [u32], coded: Result<Velocity, Refusal>) -> Whole
+    ensures { PutsElements (outcome_of coded) (velocity_elements (value_or (blank_velocity Nothing) coded)) codes.old codes.new result.0 }
 {
-    let room = codes.len();
-    match code_arrays::given_room(outcome, CODES, room) {
-        Outcome::Done => {
+    match coded {
+        Ok(velocity) => {
+            if codes.len() < CODES {
+                return code_arrays::answer(Err(Refusal::BufferTooShort));
+            }
             code_arrays::put_velocity(codes, velocity);
-            code_arrays::answer(Outcome::Done, CODES)
+            code_arrays::answer(Ok(CODES))
         }
-        Outcome::Refused(why) => code_arrays::answer(Outcome::Refused(why), 0),
+        Err(why) => code_arrays::answer(Err(why)),
     }
 }
 
-fn put_quantities(out: &mut [i64], outcome: Outcome, quantities: VelocityQuantities) -> Whole
-    ensures { PutsElements outcome (velocity_quantity_elements quantities) out.old out.new result.0 }
+fn put_quantities(out: &mut [i64], reported: Result<VelocityQuantities, Refusal>) -> Whole
+    ensures { PutsElements (outcome_of reported) (velocity_quantity_elements (value_or no_velocity reported)) out.old out.new result.0 }
 {
-    let room = out.len();
-    match code_arrays::given_room(outcome, QUANTITIES, room) {
-        Outcome::Done => {
+    match reported {
+        Ok(quantities) => {
+            if out.len() < QUANTITIES {
+                return code_arrays::answer(Err(Refusal::BufferTooShort));
+            }
             quantity_arrays::put_velocity_quantities(out, quantities);
-            code_arrays::answer(Outcome::Done, QUANTITIES)
+            code_arrays::answer(Ok(QUANTITIES))
         }
-        Outcome::Refused(why) => code_arrays::answer(Outcome::Refused(why), 0),
+        Err(why) => code_arrays::answer(Err(why)),
     }
 }

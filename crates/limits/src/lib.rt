@@ -80,12 +80,10 @@ fn within(numbers: [u32; 16], largest: [u32; 16]) -> bool
     ensures { Decides result (Within numbers largest) }
 {
     let mut all = true;
-    let mut i = 0;
-    while i < 16 {
+    for i in 0..16 {
         if largest[i] < numbers[i] {
             all = false;
         }
-        i += 1;
     }
     all
 }

@@ -9,10 +9,7 @@ pub fn within(codes: &[u32], n: usize) -> bool
     requires n_bound { n ≤ 15 }
     ensures { Decides result (PointsWithin codes.now n) }
 {
-    if !used_within(codes, n) {
-        return false;
-    }
-    none_from(codes, 16 + 3 * n)
+    used_within(codes, n) && none_from(codes, 16 + 3 * n)
 }
 
 fn used_within(codes: &[u32], n: usize) -> bool
@@ -20,8 +17,7 @@ fn used_within(codes: &[u32], n: usize) -> bool
     requires n_bound { n ≤ 15 }
     ensures { Decides result (UsedWithin codes.now n) }
 {
-    let mut i = 0;
-    while i < n {
+    for i in 0..n {
         let at = 16 + 3 * i;
         if 1 < codes[at] {
             return false;
@@ -32,7 +28,6 @@ fn used_within(codes: &[u32], n: usize) -> bool
         if 16777215 < octets::complement_of(code_arrays::longitude_of(codes[at + 2])) {
             return false;
         }
-        i += 1;
     }
     true
 }
@@ -44,12 +39,10 @@ fn none_from(codes: &[u32], first: usize) -> bool
     ensures { Decides result (NoCodesFrom codes.now first) }
 {
     let mut all = true;
-    let mut at = first;
-    while at < 61 {
-        if codes[at] != 0 {
+    for code in &codes[first..61] {
+        if *code != 0 {
             all = false;
         }
-        at += 1;
     }
     all
 }

@@ -44,6 +44,6 @@ fn put_broken(out: &mut [u8], at: usize, number: u64) -> usize
 {
     let dash = text::put_decimal(out, at, number);
     let answer = text::put_bytes(out, dash, b" - ");
-    let newline = text::put_decimal(out, answer, ground::refusal_number(Refusal::FrameBroken));
+    let newline = text::put_decimal(out, answer, u64::from(Refusal::FrameBroken));
     text::put_byte(out, newline, 10)
 }

@@ -48,10 +48,7 @@ fn latitude_bits(latitude: LatitudeCode) -> u32
     requires { latitude.1 < 8388608 }
     ensures { result ≡ latitude_bits latitude }
 {
-    if latitude.0 {
-        return 8388608 + latitude.1;
-    }
-    latitude.1
+    8388608 * u32::from(latitude.0) + latitude.1
 }
 
 // The number of 24 bits that stands for a longitude, or 2^24 where there is none.
@@ -96,10 +93,7 @@ fn level_bits(altitude: AltitudeCode) -> u16
     requires { altitude.1 < 32768 }
     ensures { result ≡ level_bits altitude }
 {
-    if altitude.0 {
-        return 32768 + altitude.1;
-    }
-    altitude.1
+    32768 * u16::from(altitude.0) + altitude.1
 }
 
 // Stores four octets.

@@ -1,18 +1,17 @@
 -- A code in plain numbers, and the promise of a function that tells what a coder says.
-use Rattle.std.specs.Prelude.{◌≡◌, ℕ}
+use Rattle.std.specs.Prelude.{◌≡◌, ℕ, Result, Some, None}
 use Rattle.ground.specs.Answers.{Said, tells}
 use Rattle.ground.specs.declared.quantity.Nanodegrees.{Nanodegrees}
-use Rattle.ground.specs.declared.quantity.UncertaintySpeed.TheVariants as uncertain
-use Rattle.ground.specs.declared.quantity.Confidence.TheVariants as confident
+use Rattle.ground.specs.declared.refusals.Refusal.{Refusal}
 use Rattle.ground.specs.declared.said.SaidCode.{SaidCode}
-use Rattle.ground.specs.declared.said.SaidCode.TheVariants.{Natural, Signed, Longitude, Refused}
+use Rattle.ground.specs.declared.said.SaidCode.TheVariants.{Natural, Signed, Longitude}
 use Rattle.one_field.specs.declared.coding.Coordinate.{Coordinate}
 use Rattle.one_field.specs.declared.coding.Coordinate.TheVariants as coordinate
 use Rattle.one_field.specs.declared.coding.Unsigned.{Unsigned}
 use Rattle.one_field.specs.declared.coding.Unsigned.TheVariants as unsigned
 use Rattle.one_field.specs.declared.coding.Markable.{Markable}
 use Rattle.one_field.specs.declared.coding.Markable.TheVariants as markable
-use Rattle.fields.specs.Fields.{Field, CodeOf, QuantityOf, CodedOf, said_code, Coding}
+use Rattle.fields.specs.Fields.{Field, CodeOf, QuantityOf, Coding}
 use Rattle.fields.specs.Fields as field
 
 -- a code in plain numbers: a sign and a number, or one number
@@ -49,21 +48,17 @@ count_of field.vertical_speed = 2
 count_of field.uncertainty_speed = 1
 count_of field.confidence = 1
 
--- what a coder's answer says in plain numbers
-abbrev pub said_by_coder : (f : Field) → CodedOf f → SaidCode
-said_by_coder f r = tells (said_code_numbers f) Refused (said_code f r)
-
 -- r tells what a coder that keeps its promise says of x
-pub record TellsCode (f : Field) (x : QuantityOf f) (r : SaidCode) : Type 0 where
+pub record TellsCode (f : Field) (x : QuantityOf f) (r : Result SaidCode Refusal) : Type 0 where
   pub said : Said (CodeOf f)
   pub promise : Coding f x said
-  pub told : r ≡ tells (said_code_numbers f) Refused said
+  pub told : r ≡ tells (said_code_numbers f) said
 
-abbrev pub TellsCoordinate : Coordinate → Nanodegrees → SaidCode → Type 0
+abbrev pub TellsCoordinate : Coordinate → Nanodegrees → Result SaidCode Refusal → Type 0
 TellsCoordinate coordinate.Latitude x r = TellsCode field.latitude x r
 TellsCoordinate coordinate.Longitude x r = TellsCode field.longitude x r
 
-abbrev pub TellsUnsigned : Unsigned → ℕ → SaidCode → Type 0
+abbrev pub TellsUnsigned : Unsigned → ℕ → Result SaidCode Refusal → Type 0
 TellsUnsigned unsigned.Uncertainty x r = TellsCode field.uncertainty (record { 0 = x }) r
 TellsUnsigned unsigned.AltitudeUncertainty x r = TellsCode field.altitude_uncertainty (record { 0 = x }) r
 TellsUnsigned unsigned.InnerRadius x r = TellsCode field.inner_radius (record { 0 = x }) r
@@ -72,9 +67,9 @@ TellsUnsigned unsigned.Included x r = TellsCode field.included (record { 0 = x }
 TellsUnsigned unsigned.Orientation x r = TellsCode field.orientation (record { 0 = x }) r
 TellsUnsigned unsigned.Bearing x r = TellsCode field.bearing (record { 0 = x }) r
 TellsUnsigned unsigned.HorizontalSpeed x r = TellsCode field.horizontal_speed (record { 0 = x }) r
-TellsUnsigned unsigned.UncertaintySpeed x r = TellsCode field.uncertainty_speed (uncertain.Speed (record { 0 = x })) r
-TellsUnsigned unsigned.Confidence x r = TellsCode field.confidence (confident.PerCent x) r
+TellsUnsigned unsigned.UncertaintySpeed x r = TellsCode field.uncertainty_speed (Some (record { 0 = x })) r
+TellsUnsigned unsigned.Confidence x r = TellsCode field.confidence (Some (record { 0 = x })) r
 
-abbrev pub TellsMissing : Markable → SaidCode → Type 0
-TellsMissing markable.UncertaintySpeed r = TellsCode field.uncertainty_speed uncertain.Missing r
-TellsMissing markable.Confidence r = TellsCode field.confidence confident.Missing r
+abbrev pub TellsMissing : Markable → Result SaidCode Refusal → Type 0
+TellsMissing markable.UncertaintySpeed r = TellsCode field.uncertainty_speed None r
+TellsMissing markable.Confidence r = TellsCode field.confidence None r

@@ -3,11 +3,16 @@
 ghost use Rattle.one_field.specs.Coding.{TellsCode, TellsCoordinate, TellsUnsigned, TellsMissing};
 ghost use Rattle.fields.specs.Fields.{altitude, vertical_speed};
 
-use crate::said_codes;
+use angles::{bearing_code, included_code, offset_code, orientation_code};
+use confidences::confidence_code;
+use coordinates::{latitude_code, longitude_code};
 use ground::{
-    Confidence, MetresPerHour, Millidegrees, Millimetres, Nanodegrees, SaidCode, SignedCode,
-    SignedMetresPerHour, SignedMillimetres, UncertaintySpeed,
+    MetresPerHour, Millidegrees, Millimetres, Nanodegrees, PerCent, Refusal, SaidCode,
+    SignedMetresPerHour, SignedMillimetres,
 };
+use lengths::{altitude_code, inner_radius_code};
+use radii::{altitude_uncertainty_code, uncertainty_code};
+use speeds::{horizontal_speed_code, uncertainty_speed_code, vertical_speed_code};
 
 #[derive(Clone, Copy)]
 pub enum Coordinate {
@@ -37,65 +42,53 @@ pub enum Markable {
     Confidence,
 }
 
-pub fn coded_coordinate(field: Coordinate, x: Nanodegrees) -> SaidCode
+pub fn coded_coordinate(field: Coordinate, x: Nanodegrees) -> Result<SaidCode, Refusal>
     ensures { TellsCoordinate field x result }
 {
     match field {
-        Coordinate::Latitude => said_codes::latitude(coordinates::latitude_code(x)),
-        Coordinate::Longitude => said_codes::longitude(coordinates::longitude_code(x)),
+        Coordinate::Latitude => latitude_code(x).map(SaidCode::from),
+        Coordinate::Longitude => longitude_code(x).map(SaidCode::from),
     }
 }
 
-pub fn coded_unsigned(field: Unsigned, x: u32) -> SaidCode
+pub fn coded_unsigned(field: Unsigned, x: u32) -> Result<SaidCode, Refusal>
     ensures { TellsUnsigned field x result }
 {
     match field {
-        Unsigned::Uncertainty => said_codes::uncertainty(radii::uncertainty_code(Millimetres(x))),
-        Unsigned::AltitudeUncertainty => said_codes::altitude_uncertainty(
-            radii::altitude_uncertainty_code(Millimetres(x)),
+        Unsigned::Uncertainty => uncertainty_code(Millimetres(x)).map(SaidCode::from),
+        Unsigned::AltitudeUncertainty => altitude_uncertainty_code(Millimetres(x)).map(
+            SaidCode::from,
         ),
-        Unsigned::InnerRadius => said_codes::inner_radius(lengths::inner_radius_code(Millimetres(
-            x,
-        ))),
-        Unsigned::Offset => said_codes::offset(angles::offset_code(Millidegrees(x))),
-        Unsigned::Included => said_codes::included(angles::included_code(Millidegrees(x))),
-        Unsigned::Orientation => said_codes::orientation(angles::orientation_code(Millidegrees(x))),
-        Unsigned::Bearing => said_codes::bearing(angles::bearing_code(Millidegrees(x))),
-        Unsigned::HorizontalSpeed => said_codes::horizontal_speed(speeds::horizontal_speed_code(
-            MetresPerHour(x),
-        )),
-        Unsigned::UncertaintySpeed => said_codes::uncertainty_speed(speeds::uncertainty_speed_code(
-            UncertaintySpeed::Speed(MetresPerHour(x)),
-        )),
-        Unsigned::Confidence => said_codes::confidence(confidences::confidence_code(
-            Confidence::PerCent(x),
-        )),
+        Unsigned::InnerRadius => Ok(SaidCode::from(inner_radius_code(Millimetres(x)))),
+        Unsigned::Offset => offset_code(Millidegrees(x)).map(SaidCode::from),
+        Unsigned::Included => included_code(Millidegrees(x)).map(SaidCode::from),
+        Unsigned::Orientation => orientation_code(Millidegrees(x)).map(SaidCode::from),
+        Unsigned::Bearing => bearing_code(Millidegrees(x)).map(SaidCode::from),
+        Unsigned::HorizontalSpeed => Ok(SaidCode::from(horizontal_speed_code(MetresPerHour(x)))),
+        Unsigned::UncertaintySpeed => uncertainty_speed_code(Some(MetresPerHour(x))).map(
+            SaidCode::from,
+        ),
+        Unsigned::Confidence => confidence_code(Some(PerCent(x))).map(SaidCode::from),
     }
 }
 
-pub fn coded_missing(field: Markable) -> SaidCode
+pub fn coded_missing(field: Markable) -> Result<SaidCode, Refusal>
     ensures { TellsMissing field result }
 {
     match field {
-        Markable::UncertaintySpeed => said_codes::uncertainty_speed(speeds::uncertainty_speed_code(
-            UncertaintySpeed::Missing,
-        )),
-        Markable::Confidence => said_codes::confidence(confidences::confidence_code(
-            Confidence::Missing,
-        )),
+        Markable::UncertaintySpeed => uncertainty_speed_code(None).map(SaidCode::from),
+        Markable::Confidence => confidence_code(None).map(SaidCode::from),
     }
 }
 
-pub fn coded_altitude(x: SignedMillimetres) -> SaidCode
+pub fn coded_altitude(x: SignedMillimetres) -> Result<SaidCode, Refusal>
     ensures { TellsCode altitude x result }
 {
-    let altitude = lengths::altitude_code(x);
-    SaidCode::Signed(SignedCode(altitude.0, altitude.1 as u32))
+    Ok(SaidCode::from(altitude_code(x)))
 }
 
-pub fn coded_vertical_speed(x: SignedMetresPerHour) -> SaidCode
+pub fn coded_vertical_speed(x: SignedMetresPerHour) -> Result<SaidCode, Refusal>
     ensures { TellsCode vertical_speed x result }
 {
-    let speed = speeds::vertical_speed_code(x);
-    SaidCode::Signed(SignedCode(speed.0, speed.1 as u32))
+    Ok(SaidCode::from(vertical_speed_code(x)))
 }

@@ -3,8 +3,6 @@
 
 mod coding;
 mod reporting;
-mod said_codes;
-mod said_quantities;
 
 pub use coding::{
     Coordinate, Markable, Unsigned, coded_altitude, coded_coordinate, coded_missing,

@@ -1,16 +1,21 @@
 // The reporters side by side, with answers in plain numbers. A number that a code's own type can't hold is refused as one
 // that its field can't hold.
 
-ghost use Rattle.std.specs.Prelude.{◌≡◌};
+ghost use Rattle.std.specs.Prelude.{◌≡◌, Err};
 ghost use Rattle.one_field.specs.Reporting.{TellsQuantity, TellsByte, TellsWord, TellsSigned, above_byte, above_word};
 ghost use Rattle.fields.specs.Fields.{longitude};
 
-use crate::said_quantities;
+use angles::{reported_bearing, reported_included, reported_offset, reported_orientation};
+use confidences::reported_confidence;
+use coordinates::reported_latitude;
 use ground::{
     AltitudeCode, AltitudeUncertaintyCode, BearingCode, ConfidenceCode, HorizontalSpeedCode,
     IncludedCode, InnerRadiusCode, LatitudeCode, LongitudeCode, OffsetCode, OrientationCode,
     Refusal, SaidQuantity, UncertaintyCode, UncertaintySpeedCode, VerticalSpeedCode,
 };
+use lengths::{reported_altitude, reported_inner_radius};
+use radii::{reported_altitude_uncertainty, reported_uncertainty};
+use speeds::{reported_horizontal_speed, reported_uncertainty_speed, reported_vertical_speed};
 
 // The fields whose codes are of 8 bits at most.
 #[derive(Clone, Copy)]
@@ -40,102 +45,86 @@ pub enum Signed {
     VerticalSpeed,
 }
 
-pub fn reported_byte(field: Byte, n: u32) -> SaidQuantity
+pub fn reported_byte(field: Byte, n: u32) -> Result<SaidQuantity, Refusal>
     ensures { TellsByte field n result }
 {
-    if 255 < n {
-        return above_byte(field);
-    }
+    let Ok(n) = u8::try_from(n) else {
+        return Err(above_byte(field));
+    };
     match field {
-        Byte::Uncertainty => said_quantities::radius(radii::reported_uncertainty(UncertaintyCode(
-            n as u8,
-        ))),
-        Byte::AltitudeUncertainty => said_quantities::radius(radii::reported_altitude_uncertainty(
-            AltitudeUncertaintyCode(n as u8),
-        )),
-        Byte::Offset => said_quantities::angle(angles::reported_offset(OffsetCode(n as u8))),
-        Byte::Included => said_quantities::angle(angles::reported_included(IncludedCode(n as u8))),
-        Byte::Orientation => said_quantities::angle(angles::reported_orientation(OrientationCode(
-            n as u8,
-        ))),
-        Byte::UncertaintySpeed => said_quantities::uncertainty_speed(
-            speeds::reported_uncertainty_speed(UncertaintySpeedCode(n as u8)),
+        Byte::Uncertainty => reported_uncertainty(UncertaintyCode(n)).map(SaidQuantity::from),
+        Byte::AltitudeUncertainty => reported_altitude_uncertainty(AltitudeUncertaintyCode(n)).map(
+            SaidQuantity::from,
         ),
-        Byte::Confidence => said_quantities::confidence(confidences::reported_confidence(
-            ConfidenceCode(n as u8),
-        )),
+        Byte::Offset => reported_offset(OffsetCode(n)).map(SaidQuantity::from),
+        Byte::Included => reported_included(IncludedCode(n)).map(SaidQuantity::from),
+        Byte::Orientation => reported_orientation(OrientationCode(n)).map(SaidQuantity::from),
+        Byte::UncertaintySpeed => Ok(SaidQuantity::from(reported_uncertainty_speed(
+            UncertaintySpeedCode(n),
+        ))),
+        Byte::Confidence => reported_confidence(ConfidenceCode(n)).map(SaidQuantity::from),
     }
 }
 
-pub fn reported_word(field: Word, n: u32) -> SaidQuantity
+pub fn reported_word(field: Word, n: u32) -> Result<SaidQuantity, Refusal>
     ensures { TellsWord field n result }
 {
-    if 65535 < n {
-        return above_word(field);
-    }
+    let Ok(n) = u16::try_from(n) else {
+        return Err(above_word(field));
+    };
     match field {
-        Word::InnerRadius => said_quantities::length(lengths::reported_inner_radius(InnerRadiusCode(
-            n as u16,
+        Word::InnerRadius => Ok(SaidQuantity::from(reported_inner_radius(InnerRadiusCode(n)))),
+        Word::Bearing => reported_bearing(BearingCode(n)).map(SaidQuantity::from),
+        Word::HorizontalSpeed => Ok(SaidQuantity::from(reported_horizontal_speed(
+            HorizontalSpeedCode(n),
         ))),
-        Word::Bearing => said_quantities::angle(angles::reported_bearing(BearingCode(n as u16))),
-        Word::HorizontalSpeed => said_quantities::speed(speeds::reported_horizontal_speed(
-            HorizontalSpeedCode(n as u16),
-        )),
     }
 }
 
-pub fn reported_signed(field: Signed, sign: bool, n: u32) -> SaidQuantity
+pub fn reported_signed(field: Signed, sign: bool, n: u32) -> Result<SaidQuantity, Refusal>
     ensures { TellsSigned field sign n result }
 {
     match field {
-        Signed::Latitude => said_quantities::coordinate(coordinates::reported_latitude(LatitudeCode(
-            sign, n,
-        ))),
+        Signed::Latitude => reported_latitude(LatitudeCode(sign, n)).map(SaidQuantity::from),
         Signed::Altitude => {
-            if 65535 < n {
-                return SaidQuantity::Refused(Refusal::OutOfRange);
-            }
-            said_quantities::altitude(lengths::reported_altitude(AltitudeCode(sign, n as u16)))
+            let Ok(n) = u16::try_from(n) else {
+                return Err(Refusal::OutOfRange);
+            };
+            reported_altitude(AltitudeCode(sign, n)).map(SaidQuantity::from)
         }
         Signed::VerticalSpeed => {
-            if 255 < n {
-                return SaidQuantity::Refused(Refusal::OutOfRange);
-            }
-            said_quantities::vertical_speed(speeds::reported_vertical_speed(VerticalSpeedCode(
-                sign, n as u8,
-            )))
+            let Ok(n) = u8::try_from(n) else {
+                return Err(Refusal::OutOfRange);
+            };
+            Ok(SaidQuantity::from(reported_vertical_speed(VerticalSpeedCode(sign, n))))
         }
     }
 }
 
-pub fn reported_longitude(code: LongitudeCode) -> SaidQuantity
+pub fn reported_longitude(code: LongitudeCode) -> Result<SaidQuantity, Refusal>
     ensures { TellsQuantity longitude code result }
 {
-    said_quantities::coordinate(coordinates::reported_longitude(code))
+    coordinates::reported_longitude(code).map(SaidQuantity::from)
 }
 
 // The refusal of a number that 8 bits can't hold.
-fn above_byte(field: Byte) -> SaidQuantity
-    ensures { result ≡ above_byte field }
+fn above_byte(field: Byte) -> Refusal
+    ensures { Err result ≡ above_byte field }
 {
     match field {
-        Byte::Uncertainty => SaidQuantity::Refused(Refusal::OutOfRange),
-        Byte::AltitudeUncertainty => SaidQuantity::Refused(Refusal::OutOfRange),
-        Byte::Offset => SaidQuantity::Refused(Refusal::AngleCode),
-        Byte::Included => SaidQuantity::Refused(Refusal::AngleCode),
-        Byte::Orientation => SaidQuantity::Refused(Refusal::AngleCode),
-        Byte::UncertaintySpeed => SaidQuantity::Refused(Refusal::OutOfRange),
-        Byte::Confidence => SaidQuantity::Refused(Refusal::ConfidenceTooLarge),
+        Byte::Uncertainty | Byte::AltitudeUncertainty | Byte::UncertaintySpeed =>
+            Refusal::OutOfRange,
+        Byte::Offset | Byte::Included | Byte::Orientation => Refusal::AngleCode,
+        Byte::Confidence => Refusal::ConfidenceTooLarge,
     }
 }
 
 // The refusal of a number that 16 bits can't hold.
-fn above_word(field: Word) -> SaidQuantity
-    ensures { result ≡ above_word field }
+fn above_word(field: Word) -> Refusal
+    ensures { Err result ≡ above_word field }
 {
     match field {
-        Word::InnerRadius => SaidQuantity::Refused(Refusal::OutOfRange),
-        Word::Bearing => SaidQuantity::Refused(Refusal::AngleCode),
-        Word::HorizontalSpeed => SaidQuantity::Refused(Refusal::OutOfRange),
+        Word::InnerRadius | Word::HorizontalSpeed => Refusal::OutOfRange,
+        Word::Bearing => Refusal::AngleCode,
     }
 }

@@ -1,4 +1,2 @@
 pub mod OnePoints
 pub mod PointLaws
-pub mod RangeLaws
-pub mod TestLaws

@@ -1,14 +1,16 @@
--- One answer: points that are coded are coded in one way, and points of which one is refused hand back zeros.
+-- One answer: points that are coded are coded in one way, and they are not points of which one is refused.
 use Prim.Native.Nat.{ℕ}
 use mathlib.Core.Path.{◌≡◌, refl, sym, ◌∙◌}
 use mathlib.Core.Bool.{Bool, true, false}
 use mathlib.Core.List.{List}
 use lib.Seq.{ext_get_or}
-use Rattle.ground.specs.Answers.{done}
+use Rattle.std.specs.Prelude.{Result}
+use Rattle.ground.specs.Answers.{done, said_of}
 use Rattle.ground.specs.declared.code.LatitudeCode.{LatitudeCode}
 use Rattle.ground.specs.declared.code.LongitudeCode.{LongitudeCode}
 use Rattle.ground.specs.declared.quantity.Nanodegrees.{Nanodegrees}
-use Rattle.ground.proofs.AnswerLaws.{said-one}
+use Rattle.ground.specs.declared.refusals.Refusal.{Refusal}
+use Rattle.ground.proofs.AnswerLaws.{said-one, one_answer, answer-one}
 use Rattle.fields.specs.Fields.{Field, latitude, longitude, CodeOf, QuantityOf, Coding}
 use Rattle.fields.proofs.OneAnswer.{coding-one}
 use Rattle.layout.specs.Shapes.{zero_latitude, zero_longitude}
@@ -28,23 +30,16 @@ module _ {used : Bool} {x y : Nanodegrees} {a b : LatitudeCode} {c d : Longitude
   longitude-one : c ≡ d
   longitude-one = code_one longitude y zero_longitude c d used p.longitudes q.longitudes (λ e. (p.no_longitudes e).1) (λ e. (q.no_longitudes e).1)
 
-module _ {xs ys : List Nanodegrees} {n : ℕ} where
-  coded-one : {r q : Points} → r.in_range ≡ q.in_range → PointsCodes xs ys n r → PointsCodes xs ys n q → r ≡ q
-  coded-one {r} {q} e p o = λ i. record {
-    in_range = e i;
+module _ (xs ys : List Nanodegrees) (n : ℕ) where
+  coded-one : (r q : Points) → PointsCodes xs ys n r → PointsCodes xs ys n q → r ≡ q
+  coded-one r q p o = λ i. record {
     latitudes = ext_get_or zero_latitude r.latitudes q.latitudes (p.all_latitudes ∙ sym o.all_latitudes) (λ k h. latitude-one (p.each k) (o.each k)) i;
     longitudes = ext_get_or zero_longitude r.longitudes q.longitudes (p.all_longitudes ∙ sym o.all_longitudes) (λ k h. longitude-one (p.each k) (o.each k)) i;
   }
 
   -- points that are coded are all kept
-  all-kept : {r : Points} → PointsCodes xs ys n r → PointsKept xs ys n
-  all-kept p k = codes-kept (p.each k)
+  all-kept : (r : Points) → PointsCodes xs ys n r → (PointsKept xs ys n → ⊥) → ⊥
+  all-kept r p out = out (λ k. codes-kept (p.each k))
 
-pub points-one : (xs ys : List Nanodegrees) (n : ℕ) (r q : Points) → CodesPoints xs ys n r → CodesPoints xs ys n q → r ≡ q
-points-one xs ys n r q p o = by r.in_range q.in_range refl refl
-  where
-    by : (s t : Bool) → r.in_range ≡ s → q.in_range ≡ t → r ≡ q
-    by true true e f = coded-one (e ∙ sym f) (p.coded e) (o.coded f)
-    by true false e f = absurd ((o.out f).not_kept (all-kept (p.coded e)))
-    by false true e f = absurd ((p.out e).not_kept (all-kept (o.coded f)))
-    by false false e f = (p.out e).blank ∙ sym (o.out f).blank
+  pub points-one : (r q : Result Points Refusal) → CodesPoints xs ys n r → CodesPoints xs ys n q → r ≡ q
+  points-one r q p o = answer-one r q (one_answer (PointsCodes xs ys n) 7 (PointsKept xs ys n → ⊥) coded-one all-kept (said_of r) (said_of q) p o)

@@ -1,14 +1,13 @@
 -- The codes of points: one point more, and all of them.
-use Prim.Native.Nat.{ℕ, ◌+◌, ◌≤◌, ◌<◌}
-use mathlib.Core.Path.{◌≡◌, refl}
-use mathlib.Core.Bool.{Bool, true, false}
+use Prim.Native.Nat.{ℕ, ◌+◌, ◌<◌}
+use mathlib.Core.Path.{◌≡◌}
+use mathlib.Core.Bool.{Bool}
 use mathlib.Core.List.{List}
 use native.Mathlib.Omega.{arith}
 use lib.Dec.{ltb}
-use lib.ListN.{length, get_or, set, get_or-eq_default}
+use lib.ListN.{length, get_or, set}
 use lib.Seq.{get_or-set_same, get_or-set_other}
 use borrow.Author.Count.{below_more}
-use borrow.Author.Tests.{ltb-true, ltb-false}
 use Rattle.ground.specs.declared.code.LatitudeCode.{LatitudeCode}
 use Rattle.ground.specs.declared.code.LongitudeCode.{LongitudeCode}
 use Rattle.ground.specs.declared.quantity.Nanodegrees.{Nanodegrees}
@@ -16,7 +15,7 @@ use Rattle.fields.specs.Fields as field
 use Rattle.layout.specs.Shapes.{zero_latitude, zero_longitude}
 use Rattle.quantities.specs.Shapes.{zero_degrees}
 use Rattle.outline_codes.specs.Points.{PointKept, PointCodes}
-use Rattle.quantities.proofs.ZeroLaws.{zero-coded, not-refused}
+use Rattle.quantities.proofs.ZeroLaws.{not-refused}
 
 abbrev pub CodesAt : List Nanodegrees → List Nanodegrees → ℕ → List LatitudeCode → List LongitudeCode → ℕ → Type 0
 CodesAt xs ys n cs ds i = PointCodes (ltb i n) (get_or xs i zero_degrees) (get_or ys i zero_degrees) (get_or cs i zero_latitude) (get_or ds i zero_longitude)
@@ -33,17 +32,6 @@ module _ (xs ys : List Nanodegrees) (n : ℕ) (cs : List LatitudeCode) (ds : Lis
       others k h =
           let apart : k ≡ i → ⊥ = λ e. absurd (omega arith) in
           rw (get_or-set_other cs i k c zero_latitude apart, get_or-set_other ds i k d zero_longitude apart) (before k h)
-
-  -- a point past the arrays is zero, and coded so
-  pub all-points : length xs ≡ 15 → length ys ≡ 15 → ((k : ℕ) → k < 15 → CodesAt xs ys n cs ds k) → (k : ℕ) → CodesAt xs ys n cs ds k
-  all-points p q h k = by (ltb k 15) refl
-    where
-      by : (t : Bool) → ltb k 15 ≡ t → CodesAt xs ys n cs ds k
-      by true e = h k (ltb-true _ _ e)
-      by false e =
-          let l : 15 ≤ k = ltb-false _ _ e in
-          rw (get_or-eq_default xs zero_degrees {n = k} (omega arith), get_or-eq_default ys zero_degrees {n = k} (omega arith), get_or-eq_default cs zero_latitude {n = k} (omega arith), get_or-eq_default ds zero_longitude {n = k} (omega arith))
-          (record { latitudes = λ _. zero-coded field.latitude refl; longitudes = λ _. zero-coded field.longitude refl; no_latitudes = λ _. (refl, refl); no_longitudes = λ _. (refl, refl) })
 
 -- a point that has its codes is in range
 pub codes-kept : {used : Bool} {x y : Nanodegrees} {c : LatitudeCode} {d : LongitudeCode} → PointCodes used x y c d → PointKept used x y

@@ -1,16 +1,16 @@
 -- The codes of a polygon's points.
-use Rattle.std.specs.Prelude.{◌≡◌, Bool, true, false, List, ℕ, ltb, length, get_or, replicate}
-use Rattle.ground.specs.Answers.{done}
+use Rattle.std.specs.Prelude.{◌≡◌, Bool, true, false, List, ℕ, ltb, length, get_or, replicate, Result}
+use Rattle.ground.specs.Answers.{done, said_of, Answer}
 use Rattle.ground.specs.declared.code.LatitudeCode.{LatitudeCode}
 use Rattle.ground.specs.declared.code.LongitudeCode.{LongitudeCode}
 use Rattle.ground.specs.declared.quantity.Nanodegrees.{Nanodegrees}
+use Rattle.ground.specs.declared.refusals.Refusal.{Refusal}
 use Rattle.fields.specs.Fields.{Coding}
 use Rattle.fields.specs.Fields as field
 use Rattle.layout.specs.Shapes.{zero_latitude, zero_longitude}
 use Rattle.quantities.specs.Shapes.{zero_degrees}
 use Rattle.outline_codes.specs.declared.points.Points.{Points}
-use Rattle.outline_codes.specs.declared.points.PointCoded.{PointCoded}
-use Rattle.outline_codes.specs.declared.points.PointCoded.TheVariants.{Codes, OutOfRange}
+use Rattle.outline_codes.specs.declared.points.PointCode.{PointCode}
 
 -- a point that is used is in range, and one that isn't is zero
 pub record PointKept (used : Bool) (x y : Nanodegrees) : Type 0 where
@@ -25,9 +25,8 @@ pub record PointCodes (used : Bool) (x y : Nanodegrees) (c : LatitudeCode) (d : 
   pub no_latitudes : used ≡ false → (x ≡ zero_degrees) × (c ≡ zero_latitude)
   pub no_longitudes : used ≡ false → (y ≡ zero_degrees) × (d ≡ zero_longitude)
 
-abbrev pub CodesPoint : Bool → Nanodegrees → Nanodegrees → PointCoded → Type 0
-CodesPoint used x y (Codes c d) = PointCodes used x y c d
-CodesPoint used x y OutOfRange = PointKept used x y → ⊥
+abbrev pub CodesPoint : Bool → Nanodegrees → Nanodegrees → Result PointCode Refusal → Type 0
+CodesPoint used x y r = Answer (λ (p : PointCode). PointCodes used x y p.latitude p.longitude) 7 (PointKept used x y → ⊥) (said_of r)
 
 -- the first n are used
 abbrev pub PointsKept : List Nanodegrees → List Nanodegrees → ℕ → Type 0
@@ -39,14 +38,8 @@ pub record PointsCodes (xs ys : List Nanodegrees) (n : ℕ) (r : Points) : Type 
   pub each : (i : ℕ) → PointCodes (ltb i n) (get_or xs i zero_degrees) (get_or ys i zero_degrees) (get_or r.latitudes i zero_latitude) (get_or r.longitudes i zero_longitude)
 
 -- fifteen points whose codes are zero
-abbrev pub blank_points : Bool → Points
-blank_points b = record { in_range = b; latitudes = replicate 15 zero_latitude; longitudes = replicate 15 zero_longitude }
+abbrev pub blank_points : Points
+blank_points = record { latitudes = replicate 15 zero_latitude; longitudes = replicate 15 zero_longitude }
 
--- a point is not kept, and every code is zero
-pub record PointsRefused (xs ys : List Nanodegrees) (n : ℕ) (r : Points) : Type 0 where
-  pub not_kept : PointsKept xs ys n → ⊥
-  pub blank : r ≡ blank_points false
-
-pub record CodesPoints (xs ys : List Nanodegrees) (n : ℕ) (r : Points) : Type 0 where
-  pub coded : r.in_range ≡ true → PointsCodes xs ys n r
-  pub out : r.in_range ≡ false → PointsRefused xs ys n r
+abbrev pub CodesPoints : List Nanodegrees → List Nanodegrees → ℕ → Result Points Refusal → Type 0
+CodesPoints xs ys n r = Answer (PointsCodes xs ys n) 7 (PointsKept xs ys n → ⊥) (said_of r)

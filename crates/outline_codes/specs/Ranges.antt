@@ -1,18 +1,15 @@
 -- The codes of the quantities that have a range, polygon points aside.
-use Rattle.std.specs.Prelude.{◌≡◌, Bool, true, false}
-use Rattle.ground.specs.Answers.{done}
+use Rattle.std.specs.Prelude.{◌≡◌, Bool, true, false, Result, Ok}
+use Rattle.ground.specs.Answers.{done, said_of, Answer}
 use Rattle.ground.specs.declared.code.IncludedCode.{IncludedCode}
 use Rattle.ground.specs.declared.quantity.Millidegrees.{Millidegrees}
-use Rattle.angles.specs.declared.IncludedCoded.{IncludedCoded}
-use Rattle.angles.specs.declared.IncludedCoded.TheVariants as included
+use Rattle.ground.specs.declared.refusals.Refusal.{Refusal}
 use Rattle.angles.specs.Angles.{CodedIncluded}
 use Rattle.fields.specs.Fields.{Coding}
 use Rattle.fields.specs.Fields as field
 use Rattle.quantities.specs.Places.{zero_code}
 use Rattle.quantities.specs.declared.shape.ShapeQuantities.{ShapeQuantities}
 use Rattle.outline_codes.specs.declared.ranges.Ranged.{Ranged}
-use Rattle.outline_codes.specs.declared.ranges.RangedCoded.{RangedCoded}
-use Rattle.outline_codes.specs.declared.ranges.RangedCoded.TheVariants.{Codes, OutOfRange}
 
 -- none is out of its range; an included angle is looked at in an arc alone
 pub record RangesKept (arc : Bool) (q : ShapeQuantities) : Type 0 where
@@ -35,10 +32,9 @@ pub record RangedCodes (arc : Bool) (q : ShapeQuantities) (r : Ranged) : Type 0 
   pub includeds : IncludedCodes arc q.included r.included
   pub confidences : Coding field.confidence q.confidence (done r.confidence)
 
-abbrev pub CodesRanged : Bool → ShapeQuantities → RangedCoded → Type 0
-CodesRanged arc q (Codes r) = RangedCodes arc q r
-CodesRanged arc q OutOfRange = RangesKept arc q → ⊥
+abbrev pub CodesRanged : Bool → ShapeQuantities → Result Ranged Refusal → Type 0
+CodesRanged arc q r = Answer (RangedCodes arc q) 7 (RangesKept arc q → ⊥) (said_of r)
 
-abbrev pub CodesIncluded : Bool → Millidegrees → IncludedCoded → Type 0
+abbrev pub CodesIncluded : Bool → Millidegrees → Result IncludedCode Refusal → Type 0
 CodesIncluded true a r = CodedIncluded a r
-CodesIncluded false a r = r ≡ included.Code (zero_code field.included)
+CodesIncluded false a r = r ≡ Ok (zero_code field.included)

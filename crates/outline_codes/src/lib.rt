@@ -9,7 +9,7 @@ mod sizes;
 mod unused;
 
 pub use outline::outlined;
-pub use points::{PointCoded, code_point, code_points};
-pub use ranges::{RangedCoded, code_ranges};
-pub use sizes::{SizesCoded, code_sizes};
+pub use points::{PointCode, Points, code_point, code_points};
+pub use ranges::{Ranged, code_ranges};
+pub use sizes::{Sizes, code_sizes};
 pub use unused::{is_zero, used_by};

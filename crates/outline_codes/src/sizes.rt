@@ -1,9 +1,8 @@
 // The codes of a shape's uncertainties.
 ghost use Rattle.outline_codes.specs.Sizes.{CodesSizes};
 
-use ground::{AltitudeUncertaintyCode, UncertaintyCode};
+use ground::{AltitudeUncertaintyCode, Refusal, UncertaintyCode};
 use quantities::ShapeQuantities;
-use radii::{AltitudeUncertaintyCoded, UncertaintyCoded};
 
 #[derive(Clone, Copy)]
 pub struct Sizes {
@@ -13,30 +12,14 @@ pub struct Sizes {
     pub altitude_uncertainty: AltitudeUncertaintyCode,
 }
 
-#[derive(Clone, Copy)]
-pub enum SizesCoded {
-    Codes(Sizes),
-    TooLarge,
-}
-
-pub fn code_sizes(quantities: ShapeQuantities) -> SizesCoded
+pub fn code_sizes(quantities: ShapeQuantities) -> Result<Sizes, Refusal>
     ensures { CodesSizes quantities result }
 {
-    let UncertaintyCoded::Code(uncertainty) = radii::uncertainty_code(quantities.uncertainty) else {
-        return SizesCoded::TooLarge;
-    };
-    let UncertaintyCoded::Code(semi_major) = radii::uncertainty_code(quantities.semi_major) else {
-        return SizesCoded::TooLarge;
-    };
-    let UncertaintyCoded::Code(semi_minor) = radii::uncertainty_code(quantities.semi_minor) else {
-        return SizesCoded::TooLarge;
-    };
-    let AltitudeUncertaintyCoded::Code(altitude_uncertainty) = radii::altitude_uncertainty_code(
-        quantities.altitude_uncertainty,
-    ) else {
-        return SizesCoded::TooLarge;
-    };
-    SizesCoded::Codes(Sizes {
+    let uncertainty = radii::uncertainty_code(quantities.uncertainty)?;
+    let semi_major = radii::uncertainty_code(quantities.semi_major)?;
+    let semi_minor = radii::uncertainty_code(quantities.semi_minor)?;
+    let altitude_uncertainty = radii::altitude_uncertainty_code(quantities.altitude_uncertainty)?;
+    Ok(Sizes {
         uncertainty,
         semi_major,
         semi_minor,

@@ -2,9 +2,8 @@
 ghost use Rattle.std.specs.Prelude.{◌≡◌};
 ghost use Rattle.ground.specs.Answers.{Decides};
 ghost use Rattle.outline_codes.specs.Kinds.{uses_of, uses_given};
-ghost use Rattle.outline_codes.specs.Unused.{IdleNumber, IdleDegrees, IdleAltitude, IdleConfidence, RestZero, NumbersZero};
+ghost use Rattle.outline_codes.specs.Unused.{RestZero, NumbersZero};
 
-use ground::{Confidence, Nanodegrees, SignedMillimetres};
 use layout::Kind;
 use quantities::ShapeQuantities;
 
@@ -67,20 +66,16 @@ fn used(
 pub fn is_zero(uses: Uses, quantities: ShapeQuantities) -> bool
     ensures { Decides result (RestZero uses quantities) }
 {
-    let confidence = quantities.confidence;
-    if !idle_degrees(uses.position, quantities.latitude) {
+    if !uses.position && (quantities.latitude.0 != 0 || quantities.longitude.0 != 0) {
         return false;
     }
-    if !idle_degrees(uses.position, quantities.longitude) {
+    if !uses.altitude && quantities.altitude.0 != 0 {
         return false;
     }
-    if !idle_altitude(uses.altitude, quantities.altitude) {
+    if !uses.confidence && quantities.confidence.is_some() {
         return false;
     }
-    if !idle_confidence(uses.confidence, confidence) {
-        return false;
-    }
-    if !idle_number(uses.count, quantities.count as u32) {
+    if !uses.count && quantities.count != 0 {
         return false;
     }
     numbers_are_zero(uses, quantities)
@@ -89,65 +84,21 @@ pub fn is_zero(uses: Uses, quantities: ShapeQuantities) -> bool
 fn numbers_are_zero(uses: Uses, quantities: ShapeQuantities) -> bool
     ensures { Decides result (NumbersZero uses quantities) }
 {
-    if !idle_number(uses.uncertainty, quantities.uncertainty.0) {
+    if !uses.uncertainty && quantities.uncertainty.0 != 0 {
         return false;
     }
-    if !idle_number(uses.axes, quantities.semi_major.0) {
+    if !uses.axes
+        && (quantities.semi_major.0 != 0
+            || quantities.semi_minor.0 != 0
+            || quantities.orientation.0 != 0)
+    {
         return false;
     }
-    if !idle_number(uses.axes, quantities.semi_minor.0) {
+    if !uses.altitude_uncertainty && quantities.altitude_uncertainty.0 != 0 {
         return false;
     }
-    if !idle_number(uses.axes, quantities.orientation.0) {
-        return false;
-    }
-    if !idle_number(uses.altitude_uncertainty, quantities.altitude_uncertainty.0) {
-        return false;
-    }
-    if !idle_number(uses.arc, quantities.inner_radius.0) {
-        return false;
-    }
-    if !idle_number(uses.arc, quantities.offset.0) {
-        return false;
-    }
-    idle_number(uses.arc, quantities.included.0)
-}
-
-fn idle_number(used: bool, n: u32) -> bool
-    ensures { Decides result (IdleNumber used n) }
-{
-    if used {
-        return true;
-    }
-    n == 0
-}
-
-fn idle_degrees(used: bool, x: Nanodegrees) -> bool
-    ensures { Decides result (IdleDegrees used x) }
-{
-    if used {
-        return true;
-    }
-    x.0 == 0
-}
-
-fn idle_altitude(used: bool, x: SignedMillimetres) -> bool
-    ensures { Decides result (IdleAltitude used x) }
-{
-    if used {
-        return true;
-    }
-    x.0 == 0
-}
-
-fn idle_confidence(used: bool, confidence: Confidence) -> bool
-    ensures { Decides result (IdleConfidence used confidence) }
-{
-    if used {
-        return true;
-    }
-    match confidence {
-        Confidence::PerCent(_) => false,
-        Confidence::Missing => true,
-    }
+    uses.arc
+        || (quantities.inner_radius.0 == 0
+            && quantities.offset.0 == 0
+            && quantities.included.0 == 0)
 }

@@ -1,8 +1,6 @@
 -- The places of a record: each has a code, whose field says what the codes and the quantities are, and stands in a row of the
 -- layout table.
-use Rattle.std.specs.Prelude.{false, List, ℕ, ◌≡◌, pos}
-use Rattle.ground.specs.declared.quantity.UncertaintySpeed.TheVariants as uncertain
-use Rattle.ground.specs.declared.quantity.Confidence.TheVariants as confident
+use Rattle.std.specs.Prelude.{false, List, ℕ, ◌≡◌, pos, Some, None}
 use Rattle.fields.specs.Fields.{CodeOf, QuantityOf}
 use Rattle.fields.specs.Fields as field
 use Rattle.layout.specs.Layout.{Row}
@@ -98,5 +96,5 @@ zero_quantity field.orientation = record { 0 = 0 }
 zero_quantity field.bearing = record { 0 = 0 }
 zero_quantity field.horizontal_speed = record { 0 = 0 }
 zero_quantity field.vertical_speed = record { 0 = pos 0 }
-zero_quantity field.uncertainty_speed = uncertain.Speed (record { 0 = 0 })
-zero_quantity field.confidence = confident.Missing
+zero_quantity field.uncertainty_speed = Some (record { 0 = 0 })
+zero_quantity field.confidence = None

@@ -2,8 +2,6 @@
 -- the record's type.
 use Rattle.std.specs.Prelude.{◌≡◌, List, ℕ, ◌≤◌}
 use Rattle.ground.specs.Answers.{done, Unless, Else0}
-use Rattle.ground.specs.declared.refusals.Outcome.{Outcome}
-use Rattle.ground.specs.declared.refusals.Outcome.TheVariants as outcome
 use Rattle.fields.specs.Fields.{Coding, OutOfRange, TooUncertain, Reporting}
 use Rattle.layout.specs.Layout.{Row}
 use Rattle.layout.specs.Layout as layout
@@ -35,8 +33,3 @@ pub record QuantitiesCovered (rows : List Row) (quantity : PlaceQuantities) : Ty
 abbrev pub CodeAnswer : List Row → ℕ → PlaceQuantities → ℕ → Type 0
 CodeAnswer rows count quantity =
     Unless (TypeKnown rows) 2 (Unless (CountSound rows (λ f. count)) 4 (Unless (QuantitiesInRange rows count quantity) 7 (Unless (QuantitiesCovered rows quantity) 8 Else0)))
-
--- what holds of an answer: the one thing when it is done, the other when it is refused
-abbrev pub Given : Outcome → Type 0 → Type 0 → Type 0
-Given outcome.Done P Q = P
-Given (outcome.Refused why) P Q = Q

@@ -1,20 +1,19 @@
 -- A shape's record reported, and its quantities coded.
-use Rattle.std.specs.Prelude.{◌≡◌, List, zero, suc, pos, length, get_or, replicate}
+use Rattle.std.specs.Prelude.{◌≡◌, List, zero, suc, pos, length, get_or, replicate, Result, IfOk}
 use Rattle.ground.specs.Answers.{outcome_number}
 use Rattle.ground.specs.declared.quantity.Nanodegrees.{Nanodegrees}
+use Rattle.ground.specs.declared.refusals.Refusal.{Refusal}
 use Rattle.fields.specs.Fields as field
 use Rattle.layout.specs.declared.shape.Kind.TheVariants.{Nothing}
 use Rattle.layout.specs.declared.shape.Shape.{Shape}
 use Rattle.layout.specs.Layout.{Row, shape_rows}
 use Rattle.layout.specs.Rows.{length_of}
 use Rattle.layout.specs.Demands.{WriteAnswer}
-use Rattle.layout.specs.Shapes.{rows_of, value_of, zero_latitude, zero_longitude, blank_shape}
+use Rattle.layout.specs.Shapes.{rows_of, value_of, zero_latitude, zero_longitude}
 use Rattle.quantities.specs.declared.shape.ShapeQuantities.{ShapeQuantities}
-use Rattle.quantities.specs.declared.shape.ShapeReported.{ShapeReported}
-use Rattle.quantities.specs.declared.shape.ShapeCoded.{ShapeCoded}
 use Rattle.quantities.specs.Places.{PlaceCodes, PlaceQuantities, zero_code, zero_quantity}
 use Rattle.quantities.specs.Places as place
-use Rattle.quantities.specs.Promises.{EachReported, EachCoded, CodeAnswer, Given}
+use Rattle.quantities.specs.Promises.{EachReported, EachCoded, CodeAnswer}
 
 -- ---- the codes and the quantities at a shape's places; a velocity's are zero
 
@@ -99,9 +98,9 @@ pub record QuantitiesOf (x : Shape) (q : ShapeQuantities) : Type 0 where
   pub each : EachReported (rows_of x) (code_at x) (quantity_at q)
 
 -- a record that the writer would refuse, room given, is refused with the same number
-pub record ReportsShape (x : Shape) (r : ShapeReported) : Type 0 where
-  pub answer : WriteAnswer (rows_of x) (value_of x) (length_of (rows_of x)) (outcome_number r.outcome)
-  pub quantities : Given r.outcome (QuantitiesOf x r.quantities) (r.quantities ≡ no_shape)
+pub record ReportsShape (x : Shape) (r : Result ShapeQuantities Refusal) : Type 0 where
+  pub answer : WriteAnswer (rows_of x) (value_of x) (length_of (rows_of x)) (outcome_number r)
+  pub quantities : IfOk r (QuantitiesOf x)
 
 -- the rows of the quantities' own type
 abbrev pub quantity_rows : ShapeQuantities → List Row
@@ -115,6 +114,6 @@ pub record RecordOf (q : ShapeQuantities) (x : Shape) : Type 0 where
   pub all_longitudes : length x.longitudes ≡ 15
   pub each : EachCoded (quantity_rows q) (quantity_at q) (code_at x)
 
-pub record CodesShape (q : ShapeQuantities) (r : ShapeCoded) : Type 0 where
-  pub answer : CodeAnswer (quantity_rows q) q.count (quantity_at q) (outcome_number r.outcome)
-  pub shape : Given r.outcome (RecordOf q r.shape) (r.shape ≡ blank_shape Nothing)
+pub record CodesShape (q : ShapeQuantities) (r : Result Shape Refusal) : Type 0 where
+  pub answer : CodeAnswer (quantity_rows q) q.count (quantity_at q) (outcome_number r)
+  pub shape : IfOk r (RecordOf q)

@@ -1,19 +1,18 @@
 -- A velocity's record reported, and its quantities coded.
-use Rattle.std.specs.Prelude.{◌≡◌}
+use Rattle.std.specs.Prelude.{◌≡◌, Result, IfOk}
 use Rattle.ground.specs.Answers.{outcome_number}
+use Rattle.ground.specs.declared.refusals.Refusal.{Refusal}
 use Rattle.fields.specs.Fields as field
 use Rattle.layout.specs.declared.velocity.VelocityKind.TheVariants.{Nothing}
 use Rattle.layout.specs.declared.velocity.Velocity.{Velocity}
 use Rattle.layout.specs.Layout.{velocity_rows}
 use Rattle.layout.specs.Rows.{length_of}
 use Rattle.layout.specs.Demands.{WriteAnswer}
-use Rattle.layout.specs.Velocities.{velocity_value_of, blank_velocity}
+use Rattle.layout.specs.Velocities.{velocity_value_of}
 use Rattle.quantities.specs.declared.velocity.VelocityQuantities.{VelocityQuantities}
-use Rattle.quantities.specs.declared.velocity.VelocityReported.{VelocityReported}
-use Rattle.quantities.specs.declared.velocity.VelocityCoded.{VelocityCoded}
 use Rattle.quantities.specs.Places.{PlaceCodes, PlaceQuantities, zero_code, zero_quantity}
 use Rattle.quantities.specs.Places as place
-use Rattle.quantities.specs.Promises.{EachReported, EachCoded, CodeAnswer, Given}
+use Rattle.quantities.specs.Promises.{EachReported, EachCoded, CodeAnswer}
 
 -- ---- the codes and the quantities at a velocity's places; a shape's are zero
 
@@ -78,15 +77,15 @@ pub record VelocityQuantitiesOf (x : Velocity) (q : VelocityQuantities) : Type 0
   pub each : EachReported (velocity_rows x.kind) (velocity_code_at x) (velocity_quantity_at q)
 
 -- a record that the writer would refuse, room given, is refused with the same number
-pub record ReportsVelocity (x : Velocity) (r : VelocityReported) : Type 0 where
-  pub answer : WriteAnswer (velocity_rows x.kind) (velocity_value_of x) (length_of (velocity_rows x.kind)) (outcome_number r.outcome)
-  pub quantities : Given r.outcome (VelocityQuantitiesOf x r.quantities) (r.quantities ≡ no_velocity)
+pub record ReportsVelocity (x : Velocity) (r : Result VelocityQuantities Refusal) : Type 0 where
+  pub answer : WriteAnswer (velocity_rows x.kind) (velocity_value_of x) (length_of (velocity_rows x.kind)) (outcome_number r)
+  pub quantities : IfOk r (VelocityQuantitiesOf x)
 
 -- the record of the quantities
 pub record VelocityRecordOf (q : VelocityQuantities) (x : Velocity) : Type 0 where
   pub kinds : x.kind ≡ q.kind
   pub each : EachCoded (velocity_rows q.kind) (velocity_quantity_at q) (velocity_code_at x)
 
-pub record CodesVelocity (q : VelocityQuantities) (r : VelocityCoded) : Type 0 where
-  pub answer : CodeAnswer (velocity_rows q.kind) 0 (velocity_quantity_at q) (outcome_number r.outcome)
-  pub velocity : Given r.outcome (VelocityRecordOf q r.velocity) (r.velocity ≡ blank_velocity Nothing)
+pub record CodesVelocity (q : VelocityQuantities) (r : Result Velocity Refusal) : Type 0 where
+  pub answer : CodeAnswer (velocity_rows q.kind) 0 (velocity_quantity_at q) (outcome_number r)
+  pub velocity : IfOk r (VelocityRecordOf q)

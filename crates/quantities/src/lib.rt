@@ -4,5 +4,5 @@
 mod shape;
 mod velocity;
 
-pub use shape::{ShapeCoded, ShapeQuantities, ShapeReported, no_shape};
-pub use velocity::{VelocityCoded, VelocityQuantities, VelocityReported, no_velocity};
+pub use shape::{ShapeQuantities, no_shape};
+pub use velocity::{VelocityQuantities, no_velocity};

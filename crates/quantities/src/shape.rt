@@ -3,8 +3,8 @@
 ghost use Rattle.std.specs.Prelude.{◌≡◌};
 ghost use Rattle.quantities.specs.Shapes.{no_shape};
 
-use ground::{Confidence, Millidegrees, Millimetres, Nanodegrees, Outcome, SignedMillimetres};
-use layout::{Kind, Shape};
+use ground::{Millidegrees, Millimetres, Nanodegrees, PerCent, SignedMillimetres};
+use layout::Kind;
 
 #[derive(Clone, Copy)]
 pub struct ShapeQuantities {
@@ -18,7 +18,7 @@ pub struct ShapeQuantities {
     pub semi_minor: Millimetres,
     pub orientation: Millidegrees,
     pub altitude_uncertainty: Millimetres,
-    pub confidence: Confidence,
+    pub confidence: Option<PerCent>,
     pub inner_radius: Millimetres,
     pub offset: Millidegrees,
     pub included: Millidegrees,
@@ -28,19 +28,7 @@ pub struct ShapeQuantities {
     pub longitudes: [Nanodegrees; 15],
 }
 
-#[derive(Clone, Copy)]
-pub struct ShapeReported {
-    pub outcome: Outcome,
-    pub quantities: ShapeQuantities,
-}
-
-#[derive(Clone, Copy)]
-pub struct ShapeCoded {
-    pub outcome: Outcome,
-    pub shape: Shape,
-}
-
-// The quantities of no shape: those of a refusal.
+// The quantities of no shape.
 pub fn no_shape() -> ShapeQuantities
     ensures { result ≡ no_shape }
 {
@@ -54,7 +42,7 @@ pub fn no_shape() -> ShapeQuantities
         semi_minor: Millimetres(0),
         orientation: Millidegrees(0),
         altitude_uncertainty: Millimetres(0),
-        confidence: Confidence::Missing,
+        confidence: None,
         inner_radius: Millimetres(0),
         offset: Millidegrees(0),
         included: Millidegrees(0),

@@ -2,8 +2,8 @@
 ghost use Rattle.std.specs.Prelude.{◌≡◌};
 ghost use Rattle.quantities.specs.Velocities.{no_velocity};
 
-use ground::{MetresPerHour, Millidegrees, Outcome, SignedMetresPerHour, UncertaintySpeed};
-use layout::{Velocity, VelocityKind};
+use ground::{MetresPerHour, Millidegrees, SignedMetresPerHour};
+use layout::VelocityKind;
 
 #[derive(Clone, Copy)]
 pub struct VelocityQuantities {
@@ -11,23 +11,11 @@ pub struct VelocityQuantities {
     pub bearing: Millidegrees,
     pub horizontal_speed: MetresPerHour,
     pub vertical_speed: SignedMetresPerHour,
-    pub uncertainty: UncertaintySpeed,
-    pub vertical_uncertainty: UncertaintySpeed,
+    pub uncertainty: Option<MetresPerHour>,
+    pub vertical_uncertainty: Option<MetresPerHour>,
 }
 
-#[derive(Clone, Copy)]
-pub struct VelocityReported {
-    pub outcome: Outcome,
-    pub quantities: VelocityQuantities,
-}
-
-#[derive(Clone, Copy)]
-pub struct VelocityCoded {
-    pub outcome: Outcome,
-    pub velocity: Velocity,
-}
-
-// The quantities of no velocity: those of a refusal.
+// The quantities of no velocity.
 pub fn no_velocity() -> VelocityQuantities
     ensures { result ≡ no_velocity }
 {
@@ -36,7 +24,7 @@ pub fn no_velocity() -> VelocityQuantities
         bearing: Millidegrees(0),
         horizontal_speed: MetresPerHour(0),
         vertical_speed: SignedMetresPerHour(0),
-        uncertainty: UncertaintySpeed::Speed(MetresPerHour(0)),
-        vertical_uncertainty: UncertaintySpeed::Speed(MetresPerHour(0)),
+        uncertainty: Some(MetresPerHour(0)),
+        vertical_uncertainty: Some(MetresPerHour(0)),
     }
 }

@@ -9,6 +9,7 @@ ghost use Rattle.quantity_arrays.specs.Shapes.{single_quantity_elements, quantit
 use crate::numbers;
 use code_arrays::Narrow;
 use ground::{Millidegrees, Millimetres, Nanodegrees, SignedMillimetres, Whole};
+use layout::Kind;
 use quantities::ShapeQuantities;
 
 // Puts the elements that are no point's into the first of the array.
@@ -26,11 +27,8 @@ pub fn clear_from(out: &mut [i64], n: u8)
     requires n_bound { n ≤ 15 }
     ensures { out.new ≡ sets out.old (14 + 2 * n) (replicate (30 - 2 * n) (pos 0)) }
 {
-    let mut i = 14 + 2 * (n as usize);
-    while i < 44 {
-        out[i] = 0;
-        i += 1;
-    }
+    let first = 14 + 2 * (n as usize);
+    out[first..44].fill(0);
 }
 
 // The elements before the points.
@@ -38,7 +36,7 @@ fn single_elements(quantities: ShapeQuantities) -> [i64; 14]
     ensures { result ≡ single_quantity_elements quantities }
 {
     let kind = quantities.kind;
-    let type_number = layout::type_number(kind);
+    let type_number = u8::from(kind);
     let confidence = quantities.confidence;
     let altitude = quantities.altitude.0;
     [
@@ -64,7 +62,7 @@ pub fn outline_in(given: &[i64]) -> ShapeQuantities
     requires { 44 ≤ length given.now }
     ensures { result ≡ quantity_outline_in given.now }
 {
-    let kind = layout::kind_of(numbers::octet(Whole(given[0])));
+    let kind = Kind::from(numbers::octet(Whole(given[0])));
     let count = numbers::octet(Whole(given[1]));
     let altitude = code_arrays::signed(Whole(given[4]));
     let confidence = numbers::confidence(Whole(given[13]));
@@ -101,13 +99,9 @@ pub fn shape_arrives(given: &[i64]) -> bool
     requires { 44 ≤ length given.now }
     ensures { Decides result (ShapeArrives given.now) }
 {
-    if !code_arrays::is_signed(Whole(given[4])) {
-        return false;
-    }
-    if !numbers::is_optional(Whole(given[13])) {
-        return false;
-    }
-    naturals_arrive(given)
+    code_arrays::is_signed(Whole(given[4]))
+        && numbers::is_optional(Whole(given[13]))
+        && naturals_arrive(given)
 }
 
 // From the uncertainty to the included angle.
@@ -115,12 +109,7 @@ fn naturals_arrive(given: &[i64]) -> bool
     requires { 44 ≤ length given.now }
     ensures { Decides result (NaturalsArrive given.now) }
 {
-    let mut at = 5;
-    while at < 13 {
-        if !code_arrays::is_natural(Whole(given[at])) {
-            return false;
-        }
-        at += 1;
-    }
-    true
+    given[5..13]
+        .iter()
+        .all(|element| code_arrays::is_natural(Whole(*element)))
 }

@@ -6,6 +6,7 @@ ghost use Rattle.quantity_arrays.specs.Velocities.{velocity_quantity_elements, v
 use crate::numbers;
 use code_arrays::Narrow;
 use ground::{MetresPerHour, Millidegrees, SignedMetresPerHour, Whole};
+use layout::VelocityKind;
 use quantities::VelocityQuantities;
 
 // Puts the elements of quantities into the first of the array.
@@ -21,7 +22,7 @@ fn elements_of(quantities: VelocityQuantities) -> [i64; 6]
     ensures { result ≡ velocity_quantity_elements quantities }
 {
     let kind = quantities.kind;
-    let type_number = layout::velocity_type_number(kind);
+    let type_number = u8::from(kind);
     let vertical = quantities.vertical_speed.0;
     let uncertainty = quantities.uncertainty;
     let vertical_uncertainty = quantities.vertical_uncertainty;
@@ -40,7 +41,7 @@ pub fn velocity_quantities_in(given: &[i64]) -> VelocityQuantities
     requires { 6 ≤ length given.now }
     ensures { result ≡ velocity_quantities_in given.now }
 {
-    let kind = layout::velocity_kind_of(numbers::octet(Whole(given[0])));
+    let kind = VelocityKind::from(numbers::octet(Whole(given[0])));
     let vertical = code_arrays::signed(Whole(given[3]));
     let uncertainty = numbers::uncertainty_speed(Whole(given[4]));
     let vertical_uncertainty = numbers::uncertainty_speed(Whole(given[5]));
@@ -59,17 +60,9 @@ pub fn velocity_arrives(given: &[i64]) -> bool
     requires { 6 ≤ length given.now }
     ensures { Decides result (VelocityArrives given.now) }
 {
-    if !code_arrays::is_natural(Whole(given[1])) {
-        return false;
-    }
-    if !code_arrays::is_natural(Whole(given[2])) {
-        return false;
-    }
-    if !code_arrays::is_signed(Whole(given[3])) {
-        return false;
-    }
-    if !numbers::is_optional(Whole(given[4])) {
-        return false;
-    }
-    numbers::is_optional(Whole(given[5]))
+    code_arrays::is_natural(Whole(given[1]))
+        && code_arrays::is_natural(Whole(given[2]))
+        && code_arrays::is_signed(Whole(given[3]))
+        && numbers::is_optional(Whole(given[4]))
+        && numbers::is_optional(Whole(given[5]))
 }

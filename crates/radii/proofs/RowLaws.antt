@@ -9,7 +9,6 @@ use borrow.Author.Tests.{ltb-true, ltb-false, lt-ltb, le-ltb}
 use lib.Dec.{ltb}
 use lib.ListN.{get_or, length, take}
 use lib.Seq.{get_or-take}
-use Rattle.ground.proofs.MatchLaws.{Passed, passed}
 use Rattle.radii.specs.Rising.{Rising, Among, FirstAt}
 use Rattle.radii.specs.Rows.{IsRow, entries_of, row_from, below}
 use Rattle.radii.specs.declared.rows.Row.{Row}
@@ -45,10 +44,6 @@ by-halves a b c d e f g h (suc (suc (suc (suc (suc zero))))) l = refl
 by-halves a b c d e f g h (suc (suc (suc (suc (suc (suc zero)))))) l = refl
 by-halves a b c d e f g h (suc (suc (suc (suc (suc (suc (suc zero))))))) l = refl
 by-halves a b c d e f g h (suc (suc (suc (suc (suc (suc (suc (suc k)))))))) l = absurd (omega arith)
-
--- a remainder by 16 is one of sixteen
-pub no_other : (k : ℕ) → Passed 16 (k % 16) → ⊥
-no_other k p = let l : 16 ≤ k % 16 = passed 16 (k % 16) p in omega (arith, l)
 
 -- numbers that do not fall
 pub record Ordered (ns : List ℕ) : Type 0 where

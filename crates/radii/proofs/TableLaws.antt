@@ -8,7 +8,7 @@ use lib.ListN.{get_or}
 use Rattle.ground.specs.Sets.{LeastCode, GreatestCovered}
 use Rattle.radii.specs.Covering.{Covers}
 use Rattle.radii.specs.Rising.{Rising, FirstAt}
-use Rattle.radii.specs.Tables.{whole_part, tabulate, whole_parts, entries_in}
+use Rattle.radii.specs.Tables.{whole_part, tabulate, whole_parts, entries_in, covers_in}
 use Rattle.radii.specs.declared.tables.Table.{Table}
 use Rattle.radii.specs.declared.tables.Table.TheVariants.{Radii, Heights}
 use Rattle.radii.proofs.CoverLaws.{covers_up, covers-from, covers-none}
@@ -51,3 +51,19 @@ pub rises : (t : Table) → Rising (entries_in t)
 unfolding entries_in
 rises Radii = rising 10000 11 10 (omega arith) (omega arith)
 rises Heights = rising 45000 41 40 (omega arith) (omega arith)
+
+-- the same of either table
+pub entry_in : (t : Table) (K : ℕ) → K < 128 → GreatestCovered (covers_in t) 127 K (get_or (entries_in t) K 0)
+unfolding entries_in
+entry_in Radii = entry 10000 11 10 (omega arith)
+entry_in Heights = entry 45000 41 40 (omega arith)
+
+pub least_in : (t : Table) (R K : ℕ) → FirstAt (entries_in t) R K → LeastCode (covers_in t) 127 R K
+unfolding entries_in
+least_in Radii = first-least 10000 11 10 (omega arith) (omega arith)
+least_in Heights = first-least 45000 41 40 (omega arith) (omega arith)
+
+pub none_in : (t : Table) (R : ℕ) → get_or (entries_in t) 127 0 < R → covers_in t 127 R → ⊥
+unfolding entries_in
+none_in Radii R h = none-covers 10000 11 10 (omega arith) (omega arith) R h
+none_in Heights R h = none-covers 45000 41 40 (omega arith) (omega arith) R h

@@ -1,17 +1,12 @@
 -- The two uncertainty codes, K from 0 to 127, in whole millimetres.
-use Rattle.std.specs.Prelude.{ℕ, ◌<◌}
-use Rattle.ground.specs.Answers.{number_of, Said, done, refused, Answer}
+use Rattle.std.specs.Prelude.{ℕ, ◌<◌, Result}
+use Rattle.ground.specs.Answers.{Said, Answer, said_of}
 use Rattle.ground.specs.Sets.{LeastCode, GreatestCovered}
 use Rattle.ground.specs.declared.quantity.Millimetres.{Millimetres}
 use Rattle.ground.specs.declared.code.UncertaintyCode.{UncertaintyCode}
 use Rattle.ground.specs.declared.code.AltitudeUncertaintyCode.{AltitudeUncertaintyCode}
+use Rattle.ground.specs.declared.refusals.Refusal.{Refusal}
 use Rattle.radii.specs.Covering.{Covers}
-use Rattle.radii.specs.declared.UncertaintyCoded.{UncertaintyCoded}
-use Rattle.radii.specs.declared.UncertaintyCoded.TheVariants as uncertainty
-use Rattle.radii.specs.declared.AltitudeUncertaintyCoded.{AltitudeUncertaintyCoded}
-use Rattle.radii.specs.declared.AltitudeUncertaintyCoded.TheVariants as altitude
-use Rattle.radii.specs.declared.RadiusReported.{RadiusReported}
-use Rattle.radii.specs.declared.RadiusReported.TheVariants as radius
 
 -- r(K) = 10000·((11/10)^K - 1)
 abbrev pub RadiusCovers : ℕ → ℕ → Type 0
@@ -37,26 +32,14 @@ AltitudeUncertaintyReporting K = Answer (λ R. GreatestCovered HeightCovers 127 
 
 -- ---- what the functions answer
 
-abbrev pub said_uncertainty : UncertaintyCoded → Said UncertaintyCode
-said_uncertainty (uncertainty.Code K) = done K
-said_uncertainty (uncertainty.Refused why) = refused (number_of why)
+abbrev pub CodedUncertainty : Millimetres → Result UncertaintyCode Refusal → Type 0
+CodedUncertainty R r = UncertaintyCoding R (said_of r)
 
-abbrev pub said_altitude_uncertainty : AltitudeUncertaintyCoded → Said AltitudeUncertaintyCode
-said_altitude_uncertainty (altitude.Code K) = done K
-said_altitude_uncertainty (altitude.Refused why) = refused (number_of why)
+abbrev pub CodedAltitudeUncertainty : Millimetres → Result AltitudeUncertaintyCode Refusal → Type 0
+CodedAltitudeUncertainty R r = AltitudeUncertaintyCoding R (said_of r)
 
-abbrev pub said_radius : RadiusReported → Said Millimetres
-said_radius (radius.Radius R) = done R
-said_radius (radius.Refused why) = refused (number_of why)
+abbrev pub ReportedUncertainty : UncertaintyCode → Result Millimetres Refusal → Type 0
+ReportedUncertainty K r = UncertaintyReporting K (said_of r)
 
-abbrev pub CodedUncertainty : Millimetres → UncertaintyCoded → Type 0
-CodedUncertainty R r = UncertaintyCoding R (said_uncertainty r)
-
-abbrev pub CodedAltitudeUncertainty : Millimetres → AltitudeUncertaintyCoded → Type 0
-CodedAltitudeUncertainty R r = AltitudeUncertaintyCoding R (said_altitude_uncertainty r)
-
-abbrev pub ReportedUncertainty : UncertaintyCode → RadiusReported → Type 0
-ReportedUncertainty K r = UncertaintyReporting K (said_radius r)
-
-abbrev pub ReportedAltitudeUncertainty : AltitudeUncertaintyCode → RadiusReported → Type 0
-ReportedAltitudeUncertainty K r = AltitudeUncertaintyReporting K (said_radius r)
+abbrev pub ReportedAltitudeUncertainty : AltitudeUncertaintyCode → Result Millimetres Refusal → Type 0
+ReportedAltitudeUncertainty K r = AltitudeUncertaintyReporting K (said_of r)

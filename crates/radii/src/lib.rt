@@ -8,65 +8,28 @@ mod tables;
 ghost use Rattle.radii.specs.Radii.{CodedUncertainty, ReportedUncertainty, CodedAltitudeUncertainty, ReportedAltitudeUncertainty};
 
 use ground::{AltitudeUncertaintyCode, Millimetres, Refusal, UncertaintyCode};
-use tables::{HEIGHTS, RADII, Table};
+use tables::Table;
 
-#[derive(Clone, Copy)]
-pub enum UncertaintyCoded {
-    Code(UncertaintyCode),
-    Refused(Refusal),
-}
-
-#[derive(Clone, Copy)]
-pub enum AltitudeUncertaintyCoded {
-    Code(AltitudeUncertaintyCode),
-    Refused(Refusal),
-}
-
-// What either code reports.
-#[derive(Clone, Copy)]
-pub enum RadiusReported {
-    Radius(Millimetres),
-    Refused(Refusal),
-}
-
-pub fn uncertainty_code(radius: Millimetres) -> UncertaintyCoded
+pub fn uncertainty_code(radius: Millimetres) -> Result<UncertaintyCode, Refusal>
     ensures { CodedUncertainty radius result }
 {
-    let x = radius.0;
-    if RADII[127] < x {
-        return UncertaintyCoded::Refused(Refusal::UncertaintyTooLarge);
-    }
-    UncertaintyCoded::Code(UncertaintyCode(tables::first_at_least(Table::Radii, x) as u8))
+    tables::covering(Table::Radii, radius.0).map(UncertaintyCode)
 }
 
-pub fn reported_uncertainty(code: UncertaintyCode) -> RadiusReported
+pub fn reported_uncertainty(code: UncertaintyCode) -> Result<Millimetres, Refusal>
     ensures { ReportedUncertainty code result }
 {
-    let radius_k = code.0;
-    if 127 < radius_k {
-        return RadiusReported::Refused(Refusal::OutOfRange);
-    }
-    RadiusReported::Radius(Millimetres(tables::entry(Table::Radii, radius_k as usize)))
+    tables::covered(Table::Radii, code.0).map(Millimetres)
 }
 
-pub fn altitude_uncertainty_code(height: Millimetres) -> AltitudeUncertaintyCoded
+pub fn altitude_uncertainty_code(height: Millimetres) -> Result<AltitudeUncertaintyCode, Refusal>
     ensures { CodedAltitudeUncertainty height result }
 {
-    let x = height.0;
-    if HEIGHTS[127] < x {
-        return AltitudeUncertaintyCoded::Refused(Refusal::UncertaintyTooLarge);
-    }
-    AltitudeUncertaintyCoded::Code(AltitudeUncertaintyCode(
-        tables::first_at_least(Table::Heights, x) as u8,
-    ))
+    tables::covering(Table::Heights, height.0).map(AltitudeUncertaintyCode)
 }
 
-pub fn reported_altitude_uncertainty(code: AltitudeUncertaintyCode) -> RadiusReported
+pub fn reported_altitude_uncertainty(code: AltitudeUncertaintyCode) -> Result<Millimetres, Refusal>
     ensures { ReportedAltitudeUncertainty code result }
 {
-    let height_k = code.0;
-    if 127 < height_k {
-        return RadiusReported::Refused(Refusal::OutOfRange);
-    }
-    RadiusReported::Radius(Millimetres(tables::entry(Table::Heights, height_k as usize)))
+    tables::covered(Table::Heights, code.0).map(Millimetres)
 }

@@ -17,6 +17,7 @@ pub struct Row(
 
 // The row of that number. Each of its places is a constant here, so the compiler keeps the table beside the code; one that is read at
 // a place known only at run time would be laid on the stack at each call. The remainder shows it that there is no other row.
+#[tactic(auto, using(crate::proofs::RowLaws::moved))]
 pub fn row_of(table: &[u32; 128], row: usize) -> Row
     requires { row < 16 }
     ensures { IsRow table.now (8 * row) result }
@@ -81,10 +82,7 @@ fn one_of(first: u32, second: u32, place: usize) -> u32
     requires { place < 2 }
     ensures { result ≡ get_or (first ∷ second ∷ []) place 0 }
 {
-    if place == 0 {
-        return first;
-    }
-    second
+    if place == 0 { first } else { second }
 }
 
 // How many of a row's first seven entries are below x.
@@ -103,8 +101,5 @@ pub fn below_in(row: Row, x: u32) -> usize
 fn below_one(entry: u32, x: u32) -> usize
     ensures { TellsBelow entry x result }
 {
-    if entry < x {
-        return 1;
-    }
-    0
+    usize::from(entry < x)
 }

@@ -1,11 +1,12 @@
-// The two tables of whole millimetres, and the one search that serves both.
+// The two tables of whole millimetres, and what codes and reports by either.
 ghost use Rattle.std.specs.Prelude.{◌≡◌, ◌*◌, ◌-◌, ◌≤◌, ◌<◌, get_or};
 ghost use Rattle.radii.specs.Rows.{IsRow};
 ghost use Rattle.radii.specs.Rising.{Among, FirstAt};
-ghost use Rattle.radii.specs.Tables.{Halving, entries_in};
+ghost use Rattle.radii.specs.Tables.{CodedBy, ReportedBy, Halving, entries_in};
 
 use crate::rows;
 use crate::rows::Row;
+use ground::Refusal;
 
 #[derive(Clone, Copy)]
 pub enum Table {
@@ -14,7 +15,7 @@ pub enum Table {
 }
 
 // The whole part of 10000·((11/10)^K - 1) millimetres, for K from 0 to 127.
-pub const RADII: [u32; 128] = [
+const RADII: [u32; 128] = [
     0, 1000, 2100, 3310, 4641, 6105, 7715, 9487, 11435, 13579, 15937, 18531, 21384, 24522, 27974,
     31772, 35949, 40544, 45599, 51159, 57274, 64002, 71402, 79543, 88497, 98347, 109181, 121099,
     134209, 148630, 164494, 181943, 201137, 222251, 245476, 271024, 299126, 330039, 364043, 401447,
@@ -31,7 +32,7 @@ pub const RADII: [u32; 128] = [
 ];
 
 // The whole part of 45000·((41/40)^K - 1) millimetres, for K from 0 to 127.
-pub const HEIGHTS: [u32; 128] = [
+const HEIGHTS: [u32; 128] = [
     0, 1125, 2278, 3460, 4671, 5913, 7186, 8490, 9828, 11198, 12603, 14043, 15519, 17032, 18583,
     20173, 21802, 23472, 25184, 26939, 28737, 30581, 32470, 34407, 36392, 38427, 40513, 42651,
     44842, 47088, 49390, 51750, 54169, 56648, 59189, 61794, 64464, 67200, 70005, 72880, 75827,
@@ -45,8 +46,37 @@ pub const HEIGHTS: [u32; 128] = [
     940588, 965228, 990484,
 ];
 
+// The least code that covers x millimetres.
+pub fn covering(table: Table, x: u32) -> Result<u8, Refusal>
+    ensures { CodedBy table x result }
+{
+    if largest(table) < x {
+        return Err(Refusal::UncertaintyTooLarge);
+    }
+    Ok(first_at_least(table, x) as u8)
+}
+
+// The most whole millimetres that code k covers.
+pub fn covered(table: Table, k: u8) -> Result<u32, Refusal>
+    ensures { ReportedBy table k result }
+{
+    if 127 < k {
+        return Err(Refusal::OutOfRange);
+    }
+    Ok(entry(table, usize::from(k)))
+}
+
+fn largest(table: Table) -> u32
+    ensures { result ≡ get_or (entries_in table) 127 0 }
+{
+    match table {
+        Table::Radii => RADII[127],
+        Table::Heights => HEIGHTS[127],
+    }
+}
+
 // The entry at a place.
-pub fn entry(table: Table, place: usize) -> u32
+fn entry(table: Table, place: usize) -> u32
     requires { place < 128 }
     ensures { result ≡ get_or (entries_in table) place 0 }
 {
@@ -55,7 +85,7 @@ pub fn entry(table: Table, place: usize) -> u32
 
 // The first place whose entry is at least x, which the last one is: the sixteen rows are halved four times, and in the row that is left
 // the place is as many of its entries as are below x. There is no branch for the processor to guess.
-pub fn first_at_least(table: Table, x: u32) -> usize
+fn first_at_least(table: Table, x: u32) -> usize
     requires { x ≤ get_or (entries_in table) 127 0 }
     ensures { FirstAt (entries_in table) x result }
 {

@@ -3,4 +3,3 @@ pub mod OneAnswer
 pub mod ShapeLaws
 pub mod UseLaws
 pub mod VelocityLaws
-pub mod VelocityTestLaws

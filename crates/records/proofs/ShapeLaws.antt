@@ -1,31 +1,26 @@
 -- A shape's places: from the codes that are found to what is promised of all places, and back where a test fails.
+use Rattle.std.specs.Prelude.{Ok, Err}
 use Prim.Native.Nat.{ℕ, zero, suc, ◌≤◌}
 use mathlib.Core.Path.{◌≡◌, refl, sym, ap, subst}
 use mathlib.Core.Bool.{Bool}
 use mathlib.Core.List.{List}
 use native.Mathlib.Omega.{arith}
-use Rattle.ground.specs.Answers.{number_of, outcome_number, unmet, met, done, refused}
-use Rattle.ground.specs.declared.refusals.Outcome.{Outcome}
-use Rattle.ground.specs.declared.refusals.Outcome.TheVariants.{Done}
+use Rattle.ground.specs.Answers.{number_of, unmet, met, done, refused}
 use Rattle.ground.specs.declared.refusals.Refusal.{Refusal}
-use Rattle.ground.specs.declared.refusals.Refusal.TheVariants.{OutOfRange, UncertaintyTooLarge}
 use Rattle.ground.specs.declared.quantity.Millidegrees.{Millidegrees}
 use Rattle.ground.specs.declared.quantity.Millimetres.{Millimetres}
 use Rattle.fields.specs.Fields.{Coding}
 use Rattle.fields.specs.Fields as field
-use Rattle.layout.specs.declared.shape.Kind.TheVariants.{Nothing}
 use Rattle.layout.specs.declared.shape.Shape.{Shape}
 use Rattle.layout.specs.Layout.{MessageField, Row}
 use Rattle.layout.specs.Layout as layout
 use Rattle.layout.specs.Demands.{Used}
-use Rattle.layout.specs.Shapes.{blank_shape}
 use Rattle.layout.proofs.KindLaws.{points_of}
 use Rattle.layout.proofs.WidthLaws.{shape_widest, shape-width}
 use Rattle.quantities.specs.declared.shape.ShapeQuantities.{ShapeQuantities}
-use Rattle.quantities.specs.declared.shape.ShapeCoded.{ShapeCoded}
 use Rattle.quantities.specs.Places.{Place, field_of, row_of, PlaceQuantities, Unused, zero_code, zero_quantity}
 use Rattle.quantities.specs.Places as place
-use Rattle.quantities.specs.Promises.{QuantitiesInRange, QuantitiesCovered, CodeAnswer, Given}
+use Rattle.quantities.specs.Promises.{QuantitiesInRange, QuantitiesCovered, CodeAnswer}
 use Rattle.quantities.specs.Shapes.{code_at, quantity_at, quantity_rows, RecordOf, CodesShape}
 use Rattle.quantities.proofs.UnusedLaws.{points-counted}
 use Rattle.outline_codes.specs.declared.points.Points.{Points}
@@ -37,7 +32,7 @@ use Rattle.records.specs.Kinds.{Formed}
 use Rattle.outline_codes.specs.Outlines.{outline_joined, Outlined}
 use Rattle.outline_codes.specs.Points.{PointsKept, PointsCodes}
 use Rattle.outline_codes.specs.Ranges.{RangesKept, RangedCodes, IncludedCodes}
-use Rattle.records.specs.Records.{RefusedShape, with_points}
+use Rattle.records.specs.Records.{with_points}
 use Rattle.outline_codes.specs.Sizes.{SizesCovered, SizeCodes}
 use Rattle.outline_codes.specs.Unused.{RestZero}
 use Rattle.quantities.proofs.ZeroLaws.{not-refused, zero-has-code, kept}
@@ -235,7 +230,7 @@ module _ (q : ShapeQuantities) where
     each-unused place.speed_uncertainty e = refl
     each-unused place.vertical_uncertainty e = refl
 
-    pub shape-done : Formed q → CodesShape q (record { outcome = Done; shape = with_points x p })
+    pub shape-done : Formed q → CodesShape q (Ok (with_points x p))
     shape-done formed = record {
       answer = met formed.listed (met formed.counted (met kept-all (met (covered s sized) refl)));
       shape = subst (λ (y : Shape). RecordOf q (with_points y p)) (sym outline.joined)
@@ -244,15 +239,12 @@ module _ (q : ShapeQuantities) where
 
   -- ---- refusals
 
-  module _ (x : ShapeCoded) where
-    pub refused-with : (why : Refusal) → RefusedShape why x → CodeAnswer rows q.count at (number_of why) → CodesShape q x
-    refused-with why h a = record {
-      answer = subst (λ (o : Outcome). CodeAnswer rows q.count at (outcome_number o)) (sym h.outcome) a;
-      shape = subst (λ (o : Outcome). Given o (RecordOf q x.shape) (x.shape ≡ blank_shape Nothing)) (sym h.outcome) h.shape;
-    }
+  pub refused-with : (why : Refusal) → CodeAnswer rows q.count at (number_of why) → CodesShape q (Err why)
+  refused-with why a = record { answer = a; shape = tt }
 
-    pub out_of_range : Formed q → RefusedShape OutOfRange x → (QuantitiesInRange rows q.count at → ⊥) → CodesShape q x
-    out_of_range formed h n = refused-with OutOfRange h (met formed.listed (met formed.counted (unmet n refl)))
+  module _ (formed : Formed q) (why : Refusal) where
+    pub out_of_range : number_of why ≡ 7 → (QuantitiesInRange rows q.count at → ⊥) → CodesShape q (Err why)
+    out_of_range e n = refused-with why (met formed.listed (met formed.counted (unmet n e)))
 
-    pub too_large : Formed q → QuantitiesInRange rows q.count at → RefusedShape UncertaintyTooLarge x → (SizesCovered q → ⊥) → CodesShape q x
-    too_large formed r h n = refused-with UncertaintyTooLarge h (met formed.listed (met formed.counted (met r (unmet (λ c. n (sizes-covered r c)) refl))))
+    pub too_large : number_of why ≡ 8 → QuantitiesInRange rows q.count at → (SizesCovered q → ⊥) → CodesShape q (Err why)
+    too_large e r n = refused-with why (met formed.listed (met formed.counted (met r (unmet (λ c. n (sizes-covered r c)) e))))

@@ -1,13 +1,11 @@
 -- A velocity's places: from the codes that are found to what is promised of all places, and back where a test fails.
 --
-use mathlib.Core.Path.{◌≡◌, refl, sym, subst}
+use Rattle.std.specs.Prelude.{Ok, Err}
+use mathlib.Core.Path.{◌≡◌, refl}
 use mathlib.Core.List.{List}
 use native.Mathlib.Omega.{arith}
-use Rattle.ground.specs.Answers.{number_of, outcome_number, unmet, met, done, refused}
-use Rattle.ground.specs.declared.refusals.Outcome.{Outcome}
-use Rattle.ground.specs.declared.refusals.Outcome.TheVariants.{Done}
+use Rattle.ground.specs.Answers.{number_of, unmet, met, done, refused}
 use Rattle.ground.specs.declared.refusals.Refusal.{Refusal}
-use Rattle.ground.specs.declared.refusals.Refusal.TheVariants.{UnknownType, OutOfRange, UncertaintyTooLarge}
 use Rattle.ground.specs.declared.code.BearingCode.{BearingCode}
 use Rattle.ground.specs.declared.code.HorizontalSpeedCode.{HorizontalSpeedCode}
 use Rattle.ground.specs.declared.code.VerticalSpeedCode.{VerticalSpeedCode}
@@ -20,15 +18,12 @@ use Rattle.layout.specs.declared.velocity.Velocity.{Velocity}
 use Rattle.layout.specs.Layout.{MessageField, Row, count, velocity_rows}
 use Rattle.layout.specs.Layout as layout
 use Rattle.layout.specs.Demands.{TypeKnown, Used, CountSound}
-use Rattle.layout.specs.Velocities.{blank_velocity}
 use Rattle.layout.proofs.WidthLaws.{velocity_widest, velocity-width}
 use Rattle.quantities.specs.declared.velocity.VelocityQuantities.{VelocityQuantities}
-use Rattle.quantities.specs.declared.velocity.VelocityCoded.{VelocityCoded}
 use Rattle.quantities.specs.Places.{Place, field_of, row_of, PlaceQuantities, Unused, zero_code, zero_quantity}
 use Rattle.quantities.specs.Places as place
-use Rattle.quantities.specs.Promises.{QuantitiesInRange, QuantitiesCovered, CodeAnswer, Given}
-use Rattle.quantities.specs.Velocities.{velocity_code_at, velocity_quantity_at, VelocityRecordOf, CodesVelocity}
-use Rattle.records.specs.VelocityRecords.{RefusedVelocity}
+use Rattle.quantities.specs.Promises.{QuantitiesInRange, QuantitiesCovered}
+use Rattle.quantities.specs.Velocities.{velocity_code_at, velocity_quantity_at, CodesVelocity}
 use Rattle.records.specs.VelocityUnused.{MotionRestZero}
 use Rattle.quantities.proofs.ZeroLaws.{not-refused, zero-has-code, kept}
 use Rattle.quantities.proofs.TestLaws.{no_bits, no-bits-back}
@@ -150,7 +145,7 @@ module _ (q : VelocityQuantities) where
     record_of = record { kind = q.kind; bearing = b; horizontal_speed = s; vertical_speed = v; uncertainty = c; vertical_uncertainty = d }
 
     pub velocity-done : TypeKnown rows → QuantitiesInRange rows 0 at → Coding field.bearing q.bearing (done b) → Coding field.horizontal_speed q.horizontal_speed (done s) → Coding field.vertical_speed q.vertical_speed (done v)
-        → Coding field.uncertainty_speed q.uncertainty (done c) → Coding field.uncertainty_speed q.vertical_uncertainty (done d) → CodesVelocity q (record { outcome = Done; velocity = record_of })
+        → Coding field.uncertainty_speed q.uncertainty (done c) → Coding field.uncertainty_speed q.vertical_uncertainty (done d) → CodesVelocity q (Ok record_of)
     velocity-done l r hb hs hv hc hd = record {
       answer = met l (met no-count (met r (met (covered c d hc hd) refl)));
       velocity = record { kinds = refl; each = record { used = used; unused = unused } };
@@ -196,34 +191,23 @@ module _ (q : VelocityQuantities) where
 
   -- ---- refusals
 
-  module _ (v : VelocityCoded) where
-    refused-with : (why : Refusal) → RefusedVelocity why v → CodeAnswer rows 0 at (number_of why) → CodesVelocity q v
-    refused-with why h a = record {
-      answer = subst (λ (o : Outcome). CodeAnswer rows 0 at (outcome_number o)) (sym h.outcome) a;
-      velocity = subst (λ (o : Outcome). Given o (VelocityRecordOf q v.velocity) (v.velocity ≡ blank_velocity Nothing)) (sym h.outcome) h.velocity;
-    }
+  module _ (why : Refusal) where
+    module _ (l : TypeKnown rows) where
+      out : number_of why ≡ 7 → (QuantitiesInRange rows 0 at → ⊥) → CodesVelocity q (Err why)
+      out e n = record { answer = met l (met no-count (unmet n e)); velocity = tt }
 
-    pub nothing-refused : q.kind ≡ Nothing → RefusedVelocity UnknownType v → CodesVelocity q v
-    nothing-refused e h = refused-with UnknownType h (unmet (λ l. unlisted (subst (λ (k : VelocityKind). TypeKnown (velocity_rows k)) e l)) refl)
-      where
-        unlisted : TypeKnown (velocity_rows Nothing) → ⊥
-        unlisted l = omega arith
+      pub rest-refused : number_of why ≡ 7 → (MotionRestZero q → ⊥) → CodesVelocity q (Err why)
+      rest-refused e n = out e (λ r. n (rest-zero r))
 
-    out : TypeKnown rows → (QuantitiesInRange rows 0 at → ⊥) → RefusedVelocity OutOfRange v → CodesVelocity q v
-    out l n h = refused-with OutOfRange h (met l (met no-count (unmet n refl)))
+      pub bearing-refused : Coding field.bearing q.bearing (refused (number_of why)) → CodesVelocity q (Err why)
+      bearing-refused n = out n.0 (λ r. r.used place.bearing (bearing-used q.kind l) (refl, n.1))
 
-    pub rest-refused : TypeKnown rows → (MotionRestZero q → ⊥) → RefusedVelocity OutOfRange v → CodesVelocity q v
-    rest-refused l n = out l (λ r. n (rest-zero r))
+      module _ (r : QuantitiesInRange rows 0 at) where
+        large : number_of why ≡ 8 → (QuantitiesCovered rows at → ⊥) → CodesVelocity q (Err why)
+        large e n = record { answer = met l (met no-count (met r (unmet n e))); velocity = tt }
 
-    pub bearing-refused : TypeKnown rows → Coding field.bearing q.bearing (refused 7) → RefusedVelocity OutOfRange v → CodesVelocity q v
-    bearing-refused l n = out l (λ r. r.used place.bearing (bearing-used q.kind l) n)
+        pub uncertainty-refused : Coding field.uncertainty_speed q.uncertainty (refused (number_of why)) → CodesVelocity q (Err why)
+        uncertainty-refused n = large n.0 (λ c. kept field.uncertainty_speed refl q.uncertainty 8 _ (c.used place.speed_uncertainty) (r.unused place.speed_uncertainty) (refl, n.1))
 
-    module _ (l : TypeKnown rows) (r : QuantitiesInRange rows 0 at) (h : RefusedVelocity UncertaintyTooLarge v) where
-      large : (QuantitiesCovered rows at → ⊥) → CodesVelocity q v
-      large n = refused-with UncertaintyTooLarge h (met l (met no-count (met r (unmet n refl))))
-
-      pub uncertainty-refused : Coding field.uncertainty_speed q.uncertainty (refused 8) → CodesVelocity q v
-      uncertainty-refused n = large (λ c. kept field.uncertainty_speed refl q.uncertainty 8 _ (c.used place.speed_uncertainty) (r.unused place.speed_uncertainty) n)
-
-      pub vertical-refused : Coding field.uncertainty_speed q.vertical_uncertainty (refused 8) → CodesVelocity q v
-      vertical-refused n = large (λ c. kept field.uncertainty_speed refl q.vertical_uncertainty 8 _ (c.used place.vertical_uncertainty) (r.unused place.vertical_uncertainty) n)
+        pub vertical-refused : Coding field.uncertainty_speed q.vertical_uncertainty (refused (number_of why)) → CodesVelocity q (Err why)
+        vertical-refused n = large n.0 (λ c. kept field.uncertainty_speed refl q.vertical_uncertainty 8 _ (c.used place.vertical_uncertainty) (r.unused place.vertical_uncertainty) (refl, n.1))

@@ -1,4 +1,3 @@
 pub mod Kinds
 pub mod Records
-pub mod VelocityRecords
 pub mod VelocityUnused

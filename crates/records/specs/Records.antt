@@ -1,11 +1,5 @@
--- A record with its points, and the record of a refusal.
-use Rattle.std.specs.Prelude.{◌≡◌}
-use Rattle.ground.specs.declared.refusals.Refusal.{Refusal}
-use Rattle.ground.specs.declared.refusals.Outcome.TheVariants.{Refused}
-use Rattle.layout.specs.declared.shape.Kind.TheVariants.{Nothing}
+-- A record with its points.
 use Rattle.layout.specs.declared.shape.Shape.{Shape}
-use Rattle.layout.specs.Shapes.{blank_shape}
-use Rattle.quantities.specs.declared.shape.ShapeCoded.{ShapeCoded}
 use Rattle.outline_codes.specs.declared.points.Points.{Points}
 
 -- a record with these points
@@ -28,7 +22,3 @@ with_points x p = record {
   latitudes = p.latitudes;
   longitudes = p.longitudes;
 }
-
-pub record RefusedShape (why : Refusal) (r : ShapeCoded) : Type 0 where
-  pub outcome : r.outcome ≡ Refused why
-  pub shape : r.shape ≡ blank_shape Nothing

@@ -2,29 +2,29 @@
 ghost use Rattle.ground.specs.Answers.{outcome_number};
 ghost use Rattle.records.specs.Kinds.{QuantitiesFormAnswer};
 
-use ground::{Outcome, Refusal};
+use ground::Refusal;
 use layout::Kind;
 
 // 2 and 4.
-pub fn form(kind: Kind, count: u8) -> Outcome
+pub fn form(kind: Kind, count: u8) -> Result<(), Refusal>
     ensures { QuantitiesFormAnswer kind count (outcome_number result) }
 {
     match kind {
-        Kind::Nothing => Outcome::Refused(Refusal::UnknownType),
-        Kind::Point => Outcome::Done,
-        Kind::Circle => Outcome::Done,
-        Kind::Ellipse => Outcome::Done,
+        Kind::Nothing => Err(Refusal::UnknownType),
+        Kind::Point => Ok(()),
+        Kind::Circle => Ok(()),
+        Kind::Ellipse => Ok(()),
         Kind::Polygon => {
             if count < 3 {
-                return Outcome::Refused(Refusal::PolygonCount);
+                return Err(Refusal::PolygonCount);
             }
             if 15 < count {
-                return Outcome::Refused(Refusal::PolygonCount);
+                return Err(Refusal::PolygonCount);
             }
-            Outcome::Done
+            Ok(())
         }
-        Kind::AltitudePoint => Outcome::Done,
-        Kind::AltitudeEllipsoid => Outcome::Done,
-        Kind::Arc => Outcome::Done,
+        Kind::AltitudePoint => Ok(()),
+        Kind::AltitudeEllipsoid => Ok(()),
+        Kind::Arc => Ok(()),
     }
 }

@@ -1,9 +1,11 @@
 // Which quantities a kind of velocity uses, and whether the others are zero.
 ghost use Rattle.std.specs.Prelude.{◌≡◌};
 ghost use Rattle.ground.specs.Answers.{Decides};
-ghost use Rattle.records.specs.VelocityUnused.{MotionRestZero, IdleVertical, IdleSpeed, motion_uses_of};
+ghost use Rattle.fields.specs.Fields as field;
+ghost use Rattle.quantities.specs.Places.{zero_quantity};
+ghost use Rattle.records.specs.VelocityUnused.{MotionRestZero, motion_uses_of};
 
-use ground::{SignedMetresPerHour, UncertaintySpeed};
+use ground::MetresPerHour;
 use layout::VelocityKind;
 use quantities::VelocityQuantities;
 
@@ -19,68 +21,39 @@ pub struct MotionUses {
 pub fn is_zero(quantities: VelocityQuantities) -> bool
     ensures { Decides result (MotionRestZero quantities) }
 {
-    let kind = quantities.kind;
-    let uncertainty = quantities.uncertainty;
-    let vertical_uncertainty = quantities.vertical_uncertainty;
-    let uses = motion_uses(kind);
-    if !idle_vertical(uses.vertical_speed, quantities.vertical_speed) {
+    let uses = motion_uses(quantities.kind);
+    if !uses.vertical_speed && quantities.vertical_speed.0 != 0 {
         return false;
     }
-    if !idle_speed(uses.uncertainty, uncertainty) {
+    if !uses.uncertainty && !is_given_zero(quantities.uncertainty) {
         return false;
     }
-    idle_speed(uses.vertical_uncertainty, vertical_uncertainty)
+    uses.vertical_uncertainty || is_given_zero(quantities.vertical_uncertainty)
 }
 
-fn idle_vertical(used: bool, speed: SignedMetresPerHour) -> bool
-    ensures { Decides result (IdleVertical used speed) }
+fn is_given_zero(uncertainty: Option<MetresPerHour>) -> bool
+    ensures { Decides result (uncertainty ≡ zero_quantity field.uncertainty_speed) }
 {
-    if used {
-        return true;
-    }
-    speed.0 == 0
-}
-
-fn idle_speed(used: bool, uncertainty: UncertaintySpeed) -> bool
-    ensures { Decides result (IdleSpeed used uncertainty) }
-{
-    if used {
-        return true;
-    }
-    match uncertainty {
-        UncertaintySpeed::Speed(speed) => speed.0 == 0,
-        UncertaintySpeed::Missing => false,
-    }
+    matches!(uncertainty, Some(MetresPerHour(0)))
 }
 
 fn motion_uses(kind: VelocityKind) -> MotionUses
     ensures { result ≡ motion_uses_of kind }
 {
     match kind {
-        VelocityKind::Nothing => MotionUses {
-            vertical_speed: false,
-            uncertainty: false,
-            vertical_uncertainty: false,
-        },
-        VelocityKind::Horizontal => MotionUses {
-            vertical_speed: false,
-            uncertainty: false,
-            vertical_uncertainty: false,
-        },
-        VelocityKind::HorizontalVertical => MotionUses {
-            vertical_speed: true,
-            uncertainty: false,
-            vertical_uncertainty: false,
-        },
-        VelocityKind::HorizontalUncertain => MotionUses {
-            vertical_speed: false,
-            uncertainty: true,
-            vertical_uncertainty: false,
-        },
-        VelocityKind::HorizontalVerticalUncertain => MotionUses {
-            vertical_speed: true,
-            uncertainty: true,
-            vertical_uncertainty: true,
-        },
+        VelocityKind::Nothing | VelocityKind::Horizontal => used(false, false, false),
+        VelocityKind::HorizontalVertical => used(true, false, false),
+        VelocityKind::HorizontalUncertain => used(false, true, false),
+        VelocityKind::HorizontalVerticalUncertain => used(true, true, true),
+    }
+}
+
+fn used(vertical_speed: bool, uncertainty: bool, vertical_uncertainty: bool) -> MotionUses
+    ensures { result ≡ record { vertical_speed = vertical_speed; uncertainty = uncertainty; vertical_uncertainty = vertical_uncertainty } }
+{
+    MotionUses {
+        vertical_speed,
+        uncertainty,
+        vertical_uncertainty,
     }
 }

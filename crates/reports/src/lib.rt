@@ -8,38 +8,22 @@ mod shape;
 ghost use Rattle.quantities.specs.Shapes.{ReportsShape};
 ghost use Rattle.quantities.specs.Velocities.{ReportsVelocity};
 
-use ground::Outcome;
+use ground::Refusal;
 use layout::{Shape, Velocity};
-use quantities::{ShapeReported, VelocityReported};
+use quantities::{ShapeQuantities, VelocityQuantities};
 
 // The quantities of a shape's record, or the refusal of the writer.
-pub fn report_shape(shape: Shape) -> ShapeReported
+pub fn report_shape(shape: Shape) -> Result<ShapeQuantities, Refusal>
     ensures { ReportsShape shape result }
 {
-    match writing::shape_outcome(shape) {
-        Outcome::Done => ShapeReported {
-            outcome: Outcome::Done,
-            quantities: shape::quantities_of(shape),
-        },
-        Outcome::Refused(why) => ShapeReported {
-            outcome: Outcome::Refused(why),
-            quantities: quantities::no_shape(),
-        },
-    }
+    writing::shape_outcome(shape)?;
+    Ok(shape::quantities_of(shape))
 }
 
 // The quantities of a velocity's record, or the refusal of the writer.
-pub fn report_velocity(velocity: Velocity) -> VelocityReported
+pub fn report_velocity(velocity: Velocity) -> Result<VelocityQuantities, Refusal>
     ensures { ReportsVelocity velocity result }
 {
-    match velocities::velocity_outcome(velocity) {
-        Outcome::Done => VelocityReported {
-            outcome: Outcome::Done,
-            quantities: motion::quantities_of(velocity),
-        },
-        Outcome::Refused(why) => VelocityReported {
-            outcome: Outcome::Refused(why),
-            quantities: quantities::no_velocity(),
-        },
-    }
+    velocities::velocity_outcome(velocity)?;
+    Ok(motion::quantities_of(velocity))
 }

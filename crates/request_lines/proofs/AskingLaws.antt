@@ -1,59 +1,86 @@
 -- Laws of what a line says.
+use Rattle.std.specs.Prelude.{Option, Some, None, Result, Ok, Err, MatchOption, IsSomeAnd}
 use mathlib.Core.Path.{◌≡◌, refl, sym, ap, ◌∙◌}
 use mathlib.Core.Bool.{Bool, true, false}
 use mathlib.Core.List.{List}
-use Prim.Native.Nat.{ℕ, ◌<◌, ◌≤◌, ◌^◌}
+use Prim.Native.Nat.{ℕ, ◌<◌, ◌^◌}
 use native.Mathlib.Omega.{arith}
 use lib.Dec.{eqb}
 use borrow.Author.Tests.{eqb-true, eqb-false}
 use lib.IntN.{ℤ, pos}
 use lib.Signed.{mag}
-use Rattle.ground.specs.declared.quantity.Confidence.{Confidence}
+use Rattle.ground.specs.declared.signs.Parts.{Parts}
 use Rattle.text.specs.Numerals.{numeral_of}
 use Rattle.text.specs.Widths.{Means, FitsSigned}
 use Rattle.text.specs.LineFields.{field_at, IsAbsent, SaysUnsigned, SaysConfidence}
 use Rattle.text.proofs.WidthLaws.{means-one}
 use Rattle.text.proofs.SaysLaws.{dash-is-none, signed-one, unsigned-one, unsigned-dash, confidence-one}
 use Rattle.requests.specs.declared.Request.{Request}
-use Rattle.requests.specs.declared.Altitude.{Altitude}
-use Rattle.requests.specs.declared.Altitude.TheVariants as level
+use Rattle.ground.specs.declared.quantity.Millimetres.{Millimetres}
+use Rattle.ground.specs.declared.quantity.SignedMillimetres.{SignedMillimetres}
 use Rattle.requests.specs.declared.Horizontal.{Horizontal}
 use Rattle.requests.specs.declared.Horizontal.TheVariants as horizontal
-use Rattle.requests.specs.declared.AltitudeUncertainty.{AltitudeUncertainty}
-use Rattle.requests.specs.declared.AltitudeUncertainty.TheVariants as height
-use Rattle.request_lines.specs.declared.amounts.Amount.{Amount}
-use Rattle.request_lines.specs.declared.amounts.Amount.TheVariants.{Unreadable}
-use Rattle.request_lines.specs.declared.ListRead.{ListRead}
-use Rattle.request_lines.specs.declared.ListRead.TheVariants.{Shapes, NoList}
-use Rattle.request_lines.specs.declared.request.Asked.{Asked}
-use Rattle.request_lines.specs.declared.request.Asked.TheVariants as asked
+use Rattle.request_lines.specs.declared.Unreadable.{Unreadable}
+use Rattle.request_lines.specs.declared.entries.Entry.{Entry}
+use Rattle.request_lines.specs.declared.entries.Entry.TheVariants.{Plain, Minus, Dash, Neither}
+use Rattle.request_lines.specs.Entries.{EntryHolds}
 use Rattle.request_lines.specs.Asking.{ReadsList, SaysAltitude, SaysHorizontal, SaysUncertainty, Says, Asks, SaysList, ListIn}
-use Rattle.request_lines.specs.Reading.{ReadsAmount, ReadsHorizontal, horizontal_of}
+use Rattle.request_lines.specs.Reading.{ReadsAmount, ReadsHorizontal, area_given, horizontal_of}
 use Rattle.request_lines.proofs.AmountLaws as amounts
+use Rattle.ground.specs.declared.quantity.PerCent.{PerCent}
 
 -- ---- the horizontal uncertainty
 
-pub horizontal-reads : (f g h : List ℕ) (R S a : Amount) → ReadsAmount f R → ReadsAmount g S → ReadsAmount h a → ReadsHorizontal f g h (horizontal_of R S a)
-horizontal-reads = amounts.horizontal-reads IsAbsent SaysUnsigned (λ f n. unsigned-dash)
+pub horizontal-reads : (f g h : List ℕ) (R S a : Option ℕ) → ReadsAmount f (Ok R) → ReadsAmount g (Ok S) → ReadsAmount h (Ok a) → ReadsHorizontal f g h (area_given R S a)
+horizontal-reads f g h = amounts.horizontal-reads IsAbsent SaysUnsigned f g h (λ f n. unsigned-dash)
+
+pub no-major : (f g h : List ℕ) {u : Unreadable} → ReadsAmount f (Err u) → (a : Horizontal) → SaysHorizontal f g h a → ⊥
+no-major f g h = amounts.no-major IsAbsent SaysUnsigned f g h
+
+pub no-minor : (f g h : List ℕ) {u : Unreadable} → ReadsAmount g (Err u) → (a : Horizontal) → SaysHorizontal f g h a → ⊥
+no-minor f g h = amounts.no-minor IsAbsent SaysUnsigned f g h
+
+pub no-turn : (f g h : List ℕ) {u : Unreadable} → ReadsAmount h (Err u) → (a : Horizontal) → SaysHorizontal f g h a → ⊥
+no-turn f g h = amounts.no-turn IsAbsent SaysUnsigned f g h
+
+pub horizontal-read : (f g h : List ℕ) (r s t : Result (Option ℕ) Unreadable) → ReadsAmount f r → ReadsAmount g s → ReadsAmount h t → ReadsHorizontal f g h (horizontal_of r s t)
+horizontal-read f g h (Ok R) (Ok S) (Ok a) p q m = horizontal-reads f g h R S a p q m
+horizontal-read f g h (Ok R) (Ok S) (Err u) p q m = no-turn f g h m
+horizontal-read f g h (Ok R) (Err u) t p q m = no-minor f g h q
+horizontal-read f g h (Err u) s t p q m = no-major f g h p
+
+-- ---- what the entry of a field leaves
+
+number-no-dash : {f : List ℕ} {p : Parts} → numeral_of f ≡ Some p → IsAbsent f → ⊥
+number-no-dash {p = p} e a = dash-is-none a (record { parts = p; number = e; value = refl })
+
+pub no-dash : (f : List ℕ) (e : Entry) → (e ≡ Dash → ⊥) → EntryHolds f e → IsAbsent f → ⊥
+no-dash f (Plain size) n h = number-no-dash h
+no-dash f (Minus size) n h = number-no-dash h
+no-dash f Dash n h = absurd (n refl)
+no-dash f Neither n h = h.1
 
 -- ---- the altitude, its uncertainty, the confidence
 
-pub no-altitude : (f : List ℕ) → (IsAbsent f → ⊥) → ((z : ℤ) → Means (numeral_of f) z → FitsSigned 32 z → ⊥) → (a : Altitude) → SaysAltitude f a → ⊥
-no-altitude f d n (level.Asked a) s = n a.0 s.means s.fits
-no-altitude f d n level.NotAsked s = d s
+pub no-altitude : (f : List ℕ) → (IsAbsent f → ⊥) → ((z : ℤ) → Means (numeral_of f) z → FitsSigned 32 z → ⊥) → (a : Option SignedMillimetres) → SaysAltitude f a → ⊥
+no-altitude f d n (Some a) s = n a.0 s.means s.fits
+no-altitude f d n None s = d s
 
-pub no-uncertainty : {f : List ℕ} → ReadsAmount f Unreadable → (a : AltitudeUncertainty) → SaysUncertainty f a → ⊥
+pub no-uncertainty : {f : List ℕ} {u : Unreadable} → ReadsAmount f (Err u) → (a : Option Millimetres) → SaysUncertainty f a → ⊥
 no-uncertainty = amounts.no-uncertainty IsAbsent SaysUnsigned
 
-pub no-confidence : {f : List ℕ} → ReadsAmount f Unreadable → (a : Confidence) → SaysConfidence f a → ⊥
+pub no-confidence : {f : List ℕ} {u : Unreadable} → ReadsAmount f (Err u) → (a : Option PerCent) → SaysConfidence f a → ⊥
 no-confidence = amounts.no-confidence IsAbsent SaysUnsigned
+
+pub uncertainty-says : (f : List ℕ) (n : Option ℕ) (m : Option Millimetres) → MatchOption n (m ≡ None) (λ x. IsSomeAnd m (λ R. R.0 ≡ x)) → ReadsAmount f (Ok n) → SaysUncertainty f m
+uncertainty-says = amounts.uncertainty-says IsAbsent SaysUnsigned
+
+pub confidence-says : (f : List ℕ) (n : Option ℕ) (m : Option PerCent) → MatchOption n (m ≡ None) (λ x. IsSomeAnd m (λ p. p.0 ≡ x)) → ReadsAmount f (Ok n) → SaysConfidence f m
+confidence-says = amounts.confidence-says IsAbsent SaysUnsigned
 
 -- ---- the list
 
--- a number that is too large is none, and so is what is no number
-pub list-too-large : {line : List ℕ} {x : ℕ} → Means (numeral_of line) (pos x) → 2 ^ 16 ≤ x → (list : ℕ) → SaysList line list → ⊥
-list-too-large {x = x} m h y s = let e : x ≡ y = ap mag (means-one m s.means) in absurd (omega (arith, s.fits))
-
+-- what is no number of 32 bits is none
 pub list-none : {line : List ℕ} → ((x : ℕ) → Means (numeral_of line) (pos x) → x < 2 ^ 32 → ⊥) → (list : ℕ) → SaysList line list → ⊥
 list-none n y s = n y s.means (omega (arith, s.fits))
 
@@ -76,17 +103,17 @@ list-by {line} {x} {y} false e a b =
 pub list-one : {line : List ℕ} {x y : ℕ} → ListIn line x → ListIn line y → x ≡ y
 list-one {x = x} {y} a b = list-by (eqb x y) refl a b
 
-pub reads-list-one : (line : List ℕ) (a b : ListRead) → ReadsList line a → ReadsList line b → a ≡ b
-reads-list-one line (Shapes x) (Shapes y) s t = ap Shapes (ap mag (means-one s.means t.means))
-reads-list-one line (Shapes x) NoList s t = absurd (t x s)
-reads-list-one line NoList (Shapes y) s t = absurd (s y t)
-reads-list-one line NoList NoList s t = refl
+pub reads-list-one : (line : List ℕ) (a b : Option ℕ) → ReadsList line a → ReadsList line b → a ≡ b
+reads-list-one line (Some x) (Some y) s t = ap Some (ap mag (means-one s.means t.means))
+reads-list-one line (Some x) None s t = absurd (t x s)
+reads-list-one line None (Some y) s t = absurd (s y t)
+reads-list-one line None None s t = refl
 
-altitude-one : (f : List ℕ) (a b : Altitude) → SaysAltitude f a → SaysAltitude f b → a ≡ b
-altitude-one f (level.Asked a) (level.Asked b) s t = ap (λ (z : ℤ). level.Asked (record { 0 = z })) (signed-one s t)
-altitude-one f (level.Asked a) level.NotAsked s t = absurd (dash-is-none t s.means)
-altitude-one f level.NotAsked (level.Asked b) s t = absurd (dash-is-none s t.means)
-altitude-one f level.NotAsked level.NotAsked s t = refl
+altitude-one : (f : List ℕ) (a b : Option SignedMillimetres) → SaysAltitude f a → SaysAltitude f b → a ≡ b
+altitude-one f (Some a) (Some b) s t = ap (λ (z : ℤ). Some (record { 0 = z })) (signed-one s t)
+altitude-one f (Some a) None s t = absurd (dash-is-none t s.means)
+altitude-one f None (Some b) s t = absurd (dash-is-none s t.means)
+altitude-one f None None s t = refl
 
 horizontal-one : (f g h : List ℕ) (a b : Horizontal) → SaysHorizontal f g h a → SaysHorizontal f g h b → a ≡ b
 horizontal-one f g h (horizontal.Circle R) (horizontal.Circle Q) s t = ap (λ (n : ℕ). horizontal.Circle (record { 0 = n })) (unsigned-one s.0 t.0)
@@ -100,11 +127,11 @@ horizontal-one f g h horizontal.NotAsked (horizontal.Circle Q) s t = absurd (uns
 horizontal-one f g h horizontal.NotAsked (horizontal.Ellipse Q P b) s t = absurd (unsigned-dash t.0 s.0)
 horizontal-one f g h horizontal.NotAsked horizontal.NotAsked s t = refl
 
-uncertainty-one : (f : List ℕ) (a b : AltitudeUncertainty) → SaysUncertainty f a → SaysUncertainty f b → a ≡ b
-uncertainty-one f (height.Asked R) (height.Asked Q) s t = ap (λ (n : ℕ). height.Asked (record { 0 = n })) (unsigned-one s t)
-uncertainty-one f (height.Asked R) height.NotAsked s t = absurd (unsigned-dash s t)
-uncertainty-one f height.NotAsked (height.Asked Q) s t = absurd (unsigned-dash t s)
-uncertainty-one f height.NotAsked height.NotAsked s t = refl
+uncertainty-one : (f : List ℕ) (a b : Option Millimetres) → SaysUncertainty f a → SaysUncertainty f b → a ≡ b
+uncertainty-one f (Some R) (Some Q) s t = ap (λ (n : ℕ). Some (record { 0 = n })) (unsigned-one s t)
+uncertainty-one f (Some R) None s t = absurd (unsigned-dash s t)
+uncertainty-one f None (Some Q) s t = absurd (unsigned-dash t s)
+uncertainty-one f None None s t = refl
 
 says-one : {line : List ℕ} {p q : Request} → Says line p → Says line q → p ≡ q
 says-one {line} {p} {q} s t =
@@ -117,9 +144,12 @@ says-one {line} {p} {q} s t =
       confidence = confidence-one (field_at line 7) p.confidence q.confidence s.confidences t.confidences i;
     }
 
+unreadable-one : (u v : Unreadable) → u ≡ v
+unreadable-one u v = refl
+
 -- a line asks for one thing
-pub asks-one : (line : List ℕ) (a b : Asked) → Asks line a → Asks line b → a ≡ b
-asks-one line (asked.Request p) (asked.Request q) s t = ap asked.Request (says-one s t)
-asks-one line (asked.Request p) asked.Unreadable s t = absurd (t p s)
-asks-one line asked.Unreadable (asked.Request q) s t = absurd (s q t)
-asks-one line asked.Unreadable asked.Unreadable s t = refl
+pub asks-one : (line : List ℕ) (a b : Result Request Unreadable) → Asks line a → Asks line b → a ≡ b
+asks-one line (Ok p) (Ok q) s t = ap Ok (says-one s t)
+asks-one line (Ok p) (Err v) s t = absurd (t p s)
+asks-one line (Err u) (Ok q) s t = absurd (s q t)
+asks-one line (Err u) (Err v) s t = ap Err (unreadable-one u v)

@@ -1,4 +1,5 @@
 -- Laws of what a field holds.
+use Rattle.std.specs.Prelude.{None}
 use mathlib.Core.Path.{◌≡◌, refl, sym, ap, ◌∙◌, subst}
 use mathlib.Core.Bool.{true, false}
 use mathlib.Core.List.{List, [], ◌∷◌}
@@ -13,37 +14,18 @@ use borrow.Author.Tests.{ne_eqb}
 use Rattle.text.specs.Marks.{FirstMark, NoMark}
 use Rattle.text.specs.Numerals.{is_digit, numeral_of, digits_of, DigitsFrom}
 use Rattle.text.specs.declared.numeral.Digits.{Digits}
-use Rattle.text.specs.declared.numeral.Numeral.TheVariants.{Number, Nothing}
+use Rattle.request_lines.specs.declared.entries.Entry.TheVariants.{Plain, Minus, Dash, Neither}
 use Rattle.text.proofs.MarkLaws.{none-then-first}
 use Rattle.text.proofs.NumeralLaws.{row-stopped, row-whole}
 use Rattle.text.proofs.OutputLaws.{split}
 use Rattle.text.specs.LineFields.{IsAbsent}
-use Rattle.request_lines.specs.Entries.{EntryHolds, entry_of, PastSign, EntryAt}
+use Rattle.request_lines.specs.Entries.{PastSign, EntryAt}
 
--- ---- what holds by each mark
-
-module _ {f : List ℕ} {size : ℕ} where
-  plain-holds : numeral_of f ≡ Number (record { negative = false; size = size }) → (IsAbsent f → ⊥) → EntryHolds f 1 size
-  plain-holds e n =
-      record { plain = λ m. e; minus = λ m. absurd (omega arith); other = λ a b. absurd (a refl); dash = λ m. absurd (omega arith); absent = λ a. absurd (n a) }
-
-  minus-holds : numeral_of f ≡ Number (record { negative = true; size = size }) → (IsAbsent f → ⊥) → EntryHolds f 2 size
-  minus-holds e n =
-      record { plain = λ m. absurd (omega arith); minus = λ m. e; other = λ a b. absurd (b refl); dash = λ m. absurd (omega arith); absent = λ a. absurd (n a) }
-
-  neither-holds : numeral_of f ≡ Nothing → (IsAbsent f → ⊥) → EntryHolds f 0 size
-  neither-holds e n =
-      record { plain = λ m. absurd (omega arith); minus = λ m. absurd (omega arith); other = λ a b. e; dash = λ m. absurd (omega arith); absent = λ a. absurd (n a) }
-
-  dash-holds : numeral_of f ≡ Nothing → IsAbsent f → EntryHolds f 3 size
-  dash-holds e a =
-      record { plain = λ m. absurd (omega arith); minus = λ m. absurd (omega arith); other = λ a b. e; dash = λ m. a; absent = λ a. refl }
-
-dash-nothing : numeral_of (45 ∷ []) ≡ Nothing
+pub dash-nothing : numeral_of (45 ∷ []) ≡ None
 unfolding numeral_of digits_of
 dash-nothing = refl
 
-none-nothing : digits_of false [] ≡ Nothing
+none-nothing : digits_of false [] ≡ None
 unfolding digits_of
 none-nothing = refl
 
@@ -110,50 +92,46 @@ module _ {line : List ℕ} {from first : ℕ} {d : Digits} (p : PastSign line fr
   ends f = record { after = omega (arith, p.after, g.row.after); inside = g.row.inside; found = f; first = no-space.none }
 
   -- what stands after the digits is no space
-  pub far-entry : {far : ℕ} → d.end < length line → (get_or line d.end 0 ≡ 32 → ⊥) → FirstMark 32 line d.end far → EntryAt line from (entry_of 0 d.size far)
+  pub far-entry : {far : ℕ} → d.end < length line → (get_or line d.end 0 ≡ 32 → ⊥) → FirstMark 32 line d.end far → EntryAt line from Neither far
   far-entry {far} h n m =
       let past : d.end < far = ⊎_elim (λ (l : d.end < far). l) (λ (l : far ≤ d.end). absurd (n (ap (λ (k : ℕ). get_or line k 0) (omega (arith, m.after)) ∙ m.found (omega arith)))) (split d.end far) in
       let after = g.row.after in
       let inside = m.inside in
-      let nothing : numeral_of (take (far - from) (drop from line)) ≡ Nothing =
+      let nothing : numeral_of (take (far - from) (drop from line)) ≡ None =
       ⊎_elim (λ (s : from < first). minus-numeral p s far (omega arith) inside ∙ row-stopped g.row true far past inside (g.stops h))
       (λ (s : first ≤ from). plain-numeral p (omega (arith, p.after)) far (omega (arith, p.after)) inside ∙ row-stopped g.row false far past inside (g.stops h))
       (split from first) in
       record {
         end = none-then-first no-space (omega (arith, p.after)) m;
-        holds = neither-holds nothing (not-dash p far (omega arith) inside (λ s. omega arith));
+        holds = (nothing, not-dash p far (omega arith) inside (λ s. omega arith));
       }
 
   module _ (f : d.end < length line → get_or line d.end 0 ≡ 32) where
-    pub minus-entry : first < d.end → from < first → d.size ≤ 18446744073709551615 → EntryAt line from (entry_of 2 d.size d.end)
+    pub minus-entry : first < d.end → from < first → d.size ≤ 18446744073709551615 → EntryAt line from (Minus d.size) d.end
     minus-entry h s l =
         record {
           end = ends f;
-          holds = minus-holds (minus-numeral p s d.end g.row.after g.row.inside ∙ row-whole g.row true h l) (not-dash p d.end g.row.after g.row.inside (λ s. h));
+          holds = minus-numeral p s d.end g.row.after g.row.inside ∙ row-whole g.row true h l;
         }
 
-    pub plain_entry : first < d.end → first ≤ from → d.size ≤ 18446744073709551615 → EntryAt line from (entry_of 1 d.size d.end)
+    pub plain_entry : first < d.end → first ≤ from → d.size ≤ 18446744073709551615 → EntryAt line from (Plain d.size) d.end
     plain_entry h s l =
         record {
           end = ends f;
-          holds =
-              plain-holds (plain-numeral p (omega (arith, p.after)) d.end (omega (arith, p.after)) g.row.inside ∙ row-whole g.row false h l)
-              (not-dash p d.end g.row.after g.row.inside (λ s. h));
+          holds = plain-numeral p (omega (arith, p.after)) d.end (omega (arith, p.after)) g.row.inside ∙ row-whole g.row false h l;
         }
 
-    pub dash-entry : d.end ≤ first → from < first → EntryAt line from (entry_of 3 d.size d.end)
+    pub dash-entry : d.end ≤ first → from < first → EntryAt line from Dash d.end
     dash-entry h s =
         let e : d.end - first ≡ 0 = omega (arith, g.row.after) in
         let dash : take (d.end - from) (drop from line) ≡ 45 ∷ [] = minus-part p s d.end g.row.after g.row.inside ∙ rw e in
-        record { end = ends f; holds = dash-holds (rw dash dash-nothing) dash }
+        record { end = ends f; holds = dash }
 
-    pub empty-entry : d.end ≤ first → first ≤ from → EntryAt line from (entry_of 0 d.size d.end)
+    pub empty-entry : d.end ≤ first → first ≤ from → EntryAt line from Neither d.end
     empty-entry h s =
         let e : d.end - first ≡ 0 = omega (arith, g.row.after) in
-        let none : digits_of false (take (d.end - first) (drop first line)) ≡ Nothing = rw e none-nothing in
+        let none : digits_of false (take (d.end - first) (drop first line)) ≡ None = rw e none-nothing in
         record {
           end = ends f;
-          holds =
-              neither-holds (plain-numeral p (omega (arith, p.after)) d.end (omega (arith, p.after, g.row.after)) g.row.inside ∙ none)
-              (not-dash p d.end g.row.after g.row.inside (λ t. absurd (omega arith)));
+          holds = (plain-numeral p (omega (arith, p.after)) d.end (omega (arith, p.after, g.row.after)) g.row.inside ∙ none, not-dash p d.end g.row.after g.row.inside (λ t. absurd (omega arith)));
         }

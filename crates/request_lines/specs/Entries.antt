@@ -1,21 +1,18 @@
--- What the fields of a line hold, as marks and sizes.
-use Rattle.std.specs.Prelude.{◌≡◌, Bool, true, false, List, ℕ, ◌+◌, ◌-◌, ◌≤◌, ◌<◌, length, get_or, take, drop}
+-- What the fields of a line hold.
+use Rattle.std.specs.Prelude.{◌≡◌, Bool, true, false, List, ℕ, ◌+◌, ◌-◌, ◌≤◌, ◌<◌, length, get_or, take, drop, Some, None, Result, Ok, Err}
 use Rattle.text.specs.Marks.{FirstMark}
 use Rattle.text.specs.Numerals.{numeral_of}
-use Rattle.text.specs.declared.numeral.Numeral.TheVariants.{Number, Nothing}
+use Rattle.request_lines.specs.declared.Unreadable.{Unreadable}
 use Rattle.request_lines.specs.declared.entries.Entry.{Entry}
+use Rattle.request_lines.specs.declared.entries.Entry.TheVariants.{Plain, Minus, Dash, Neither}
 use Rattle.text.specs.LineFields.{fields_of, field_at, IsAbsent}
 
--- the field writes a number of that size (marks 1 and 2, a minus sign with 2), is a dash (3), or neither (0)
-pub record EntryHolds (f : List ℕ) (mark size : ℕ) : Type 0 where
-  pub plain : mark ≡ 1 → numeral_of f ≡ Number (record { negative = false; size = size })
-  pub minus : mark ≡ 2 → numeral_of f ≡ Number (record { negative = true; size = size })
-  pub other : (mark ≡ 1 → ⊥) → (mark ≡ 2 → ⊥) → numeral_of f ≡ Nothing
-  pub dash : mark ≡ 3 → IsAbsent f
-  pub absent : IsAbsent f → mark ≡ 3
-
-abbrev pub entry_of : ℕ → ℕ → ℕ → Entry
-entry_of mark size end = record { mark = mark; size = size; end = end }
+-- the field writes a number of that size, after a minus sign or with none, is a dash, or neither
+abbrev pub EntryHolds : List ℕ → Entry → Type 0
+EntryHolds f (Plain size) = numeral_of f ≡ Some (record { negative = false; size = size })
+EntryHolds f (Minus size) = numeral_of f ≡ Some (record { negative = true; size = size })
+EntryHolds f Dash = IsAbsent f
+EntryHolds f Neither = (numeral_of f ≡ None) × (IsAbsent f → ⊥)
 
 -- past a minus sign (45) where one stands
 pub record PastSign (line : List ℕ) (from r : ℕ) : Type 0 where
@@ -30,16 +27,16 @@ pub record GoesOn (line : List ℕ) (end : ℕ) (r : Bool) : Type 0 where
   pub no : r ≡ false → end < length line → get_or line end 0 ≡ 32
 
 -- the field from there up to the next space (32) or the end of the line holds that
-pub record EntryAt (line : List ℕ) (from : ℕ) (r : Entry) : Type 0 where
-  pub end : FirstMark 32 line from r.end
-  pub holds : EntryHolds (take (r.end - from) (drop from line)) r.mark r.size
+pub record EntryAt (line : List ℕ) (from : ℕ) (entry : Entry) (r : ℕ) : Type 0 where
+  pub end : FirstMark 32 line from r
+  pub holds : EntryHolds (take (r - from) (drop from line)) entry
 
 -- the line has eight fields, and they hold that
-pub record Eight (line marks sizes : List ℕ) : Type 0 where
+pub record Eight (line : List ℕ) (held : List Entry) : Type 0 where
   pub eight : length (fields_of line) ≡ 8
-  pub each : (number : ℕ) → number < 8 → EntryHolds (field_at line number) (get_or marks number 0) (get_or sizes number 0)
+  pub each : (number : ℕ) → number < 8 → EntryHolds (field_at line number) (get_or held number Neither)
 
 -- whether it has eight, and what they hold
-abbrev pub HeldInEight : List ℕ → List ℕ → List ℕ → Bool → Type 0
-HeldInEight line marks sizes true = Eight line marks sizes
-HeldInEight line marks sizes false = length (fields_of line) ≡ 8 → ⊥
+abbrev pub HeldInEight : List ℕ → List Entry → Result Unit Unreadable → Type 0
+HeldInEight line held (Ok _) = Eight line held
+HeldInEight line held (Err _) = length (fields_of line) ≡ 8 → ⊥

@@ -1,58 +1,52 @@
 // What single fields say.
 ghost use Rattle.std.specs.Prelude.{List, ℕ};
-ghost use Rattle.text.specs.Numerals.{numeral_of};
-ghost use Rattle.text.specs.Widths.{AsSigned64};
 ghost use Rattle.request_lines.specs.Entries.{EntryHolds};
-ghost use Rattle.request_lines.specs.Reading.{ReadsAltitude, ReadsAmount};
+ghost use Rattle.request_lines.specs.Reading.{ReadsCoordinate, ReadsAltitude, ReadsAmount, ReadsUncertainty, ReadsConfidence};
 
-use crate::entries;
-use ground::SignedMillimetres;
-use requests::Altitude;
-use text::{Signed32, Signed64, Unsigned32};
+use crate::entries::Entry;
+use crate::{Unreadable, entries};
+use ground::{Millimetres, Nanodegrees, PerCent, SignedMillimetres};
 
-#[derive(Clone, Copy)]
-pub enum AltitudeRead {
-    Read(Altitude),
-    Unreadable,
-}
-
-// A number of 32 bits without a sign, where there is one.
-#[derive(Clone, Copy)]
-pub enum Amount {
-    Number(u32),
-    Absent,
-    Unreadable,
-}
-
-// The coordinate in a field with that mark and that size.
-pub fn coordinate_of(mark: u8, size: u64) -> Signed64
-    ensures { (f : List ℕ) → EntryHolds f mark size → AsSigned64 (numeral_of f) result }
+// The coordinate in a field that holds that.
+pub fn coordinate_of(entry: Entry) -> Result<Nanodegrees, Unreadable>
+    ensures { (f : List ℕ) → EntryHolds f entry → ReadsCoordinate f result }
 {
-    text::signed_64(entries::numeral_of(mark, size))
+    let coordinate = text::signed_64(entries::numeral_of(entry)).ok_or(Unreadable)?;
+    Ok(Nanodegrees(coordinate))
 }
 
 // The altitude in it.
-pub fn altitude_of(mark: u8, size: u64) -> AltitudeRead
-    ensures { (f : List ℕ) → EntryHolds f mark size → ReadsAltitude f result }
+pub fn altitude_of(entry: Entry) -> Result<Option<SignedMillimetres>, Unreadable>
+    ensures { (f : List ℕ) → EntryHolds f entry → ReadsAltitude f result }
 {
-    if mark == entries::DASH {
-        return AltitudeRead::Read(Altitude::NotAsked);
+    if let Entry::Dash = entry {
+        return Ok(None);
     }
-    let Signed32::Number(altitude) = text::signed_32(entries::numeral_of(mark, size)) else {
-        return AltitudeRead::Unreadable;
-    };
-    AltitudeRead::Read(Altitude::Asked(SignedMillimetres(altitude)))
+    let altitude = text::signed_32(entries::numeral_of(entry)).ok_or(Unreadable)?;
+    Ok(Some(SignedMillimetres(altitude)))
 }
 
-// The amount in it.
-pub fn amount_of(mark: u8, size: u64) -> Amount
-    ensures { (f : List ℕ) → EntryHolds f mark size → ReadsAmount f result }
+// The number of 32 bits without a sign in it, where there is one.
+pub fn amount_of(entry: Entry) -> Result<Option<u32>, Unreadable>
+    ensures { (f : List ℕ) → EntryHolds f entry → ReadsAmount f result }
 {
-    if mark == entries::DASH {
-        return Amount::Absent;
+    if let Entry::Dash = entry {
+        return Ok(None);
     }
-    let Unsigned32::Number(amount) = text::unsigned_32(entries::numeral_of(mark, size)) else {
-        return Amount::Unreadable;
-    };
-    Amount::Number(amount)
+    let amount = text::unsigned_32(entries::numeral_of(entry)).ok_or(Unreadable)?;
+    Ok(Some(amount))
+}
+
+// The altitude uncertainty in it.
+pub fn uncertainty_of(entry: Entry) -> Result<Option<Millimetres>, Unreadable>
+    ensures { (f : List ℕ) → EntryHolds f entry → ReadsUncertainty f result }
+{
+    Ok(amount_of(entry)?.map(Millimetres))
+}
+
+// The confidence in it.
+pub fn confidence_of(entry: Entry) -> Result<Option<PerCent>, Unreadable>
+    ensures { (f : List ℕ) → EntryHolds f entry → ReadsConfidence f result }
+{
+    Ok(amount_of(entry)?.map(PerCent))
 }

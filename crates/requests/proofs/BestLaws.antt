@@ -1,9 +1,13 @@
 -- FROM RECORDS TO MESSAGES: what is the best message of one kind, and which kind is best, over all octet strings.
+use Rattle.std.specs.Prelude.{Option, Some, None, is_some}
 use Prim.Native.Nat.{ℕ, ◌≤◌}
 use mathlib.Core.Path.{◌≡◌, refl, sym, ap, ◌∙◌, subst}
+use mathlib.Core.Bool.{true, false}
 use mathlib.Core.List.{List}
 use native.Mathlib.Omega.{arith}
 use lib.ListN.{length}
+use Rattle.ground.specs.declared.code.AltitudeCode.{AltitudeCode}
+use Rattle.ground.specs.declared.code.AltitudeUncertaintyCode.{AltitudeUncertaintyCode}
 use Rattle.layout.specs.declared.shape.Kind.{Kind}
 use Rattle.layout.specs.declared.shape.Kind.TheVariants.{Point, Circle, Ellipse, AltitudePoint, AltitudeEllipsoid}
 use Rattle.layout.specs.declared.shape.Shape.{Shape}
@@ -15,10 +19,11 @@ use Rattle.layout.proofs.DemandLaws.{Readable, readable, read_done}
 use Rattle.layout.proofs.ShapeTrips.{rows-read, readable-message, record-message}
 use Rattle.requests.specs.declared.Request.{Request}
 use Rattle.requests.specs.declared.codes.Wanted.{Wanted}
-use Rattle.requests.specs.Holding.{Holds}
+use Rattle.requests.specs.declared.codes.AreaWanted.{AreaWanted}
+use Rattle.requests.specs.Holding.{circle, ellipse, no_area, Holds}
 use Rattle.requests.specs.Choice.{TakesPart, Candidate, Before, rank, Better, Best}
-use Rattle.requests.specs.Codes.{CodesOf, Fits, Tame, Able, wanted_record, message_of, rank_of, BestKind}
-use Rattle.requests.proofs.HoldingLaws.{fitted, holding}
+use Rattle.requests.specs.Codes.{CodesOf, altitude_or_0, area_or_0, height_or_0, FitsAltitude, FitsArea, FitsAltitudeUncertainty, Fits, Tame, Able, wanted_record, message_of, rank_of, BestKind}
+use Rattle.requests.proofs.HoldingLaws.{differ, fitted, holding}
 use Rattle.requests.proofs.OrderLaws.{not-before-trans}
 use Rattle.requests.proofs.KindLaws.{by_kind, part-rows, fits-able, none-lower}
 use Rattle.requests.proofs.RecordLaws.{record-sound, record-whole, record-rows, record-latitude, record-longitude, point-altitude, ellipsoid-altitude}
@@ -31,15 +36,45 @@ length-of s r part = r.long ∙ ap length_of (sym (rows-read s r) ∙ part-rows 
 pub at-most-14 : {q : Request} {taken : Kind → Type 0} (s : List ℕ) → Candidate q taken s → length s ≤ 14
 at-most-14 s c = rw (length-of s (readable (rows_in s) s c.readable) c.part) (by_kind (λ k. length_of (shape_rows k 0) ≤ 14) (omega arith) (omega arith) (omega arith) (omega arith) (omega arith) (shape_in s).kind c.part)
 
+-- ---- what has the wanted code, where one is asked, fits, and what has none, where none is
+
+none-fits : (w : Option AltitudeCode) → false ≡ is_some w → FitsAltitude w None
+none-fits (Some a) e = absurd (differ (sym e))
+none-fits None e = tt
+
+own-fits : (w : Option AltitudeCode) (c : AltitudeCode) → true ≡ is_some w → c ≡ altitude_or_0 w → FitsAltitude w (Some c)
+own-fits (Some a) c e h = h
+own-fits None c e h = absurd (differ e)
+
+no-area-fits : (w : Option AreaWanted) → false ≡ is_some w → FitsArea w no_area
+no-area-fits (Some a) e = absurd (differ (sym e))
+no-area-fits None e = tt
+
+circle-fits : (w : Option AreaWanted) → true ≡ is_some w → FitsArea w (circle (area_or_0 w).semi_major)
+circle-fits (Some a) e = omega arith
+circle-fits None e = absurd (differ e)
+
+axes-fit : (w : Option AreaWanted) → true ≡ is_some w → FitsArea w (ellipse (area_or_0 w).semi_major (area_or_0 w).semi_minor (area_or_0 w).orientation)
+axes-fit (Some a) e = (omega arith, omega arith, refl)
+axes-fit None e = absurd (differ e)
+
+no-height-fits : (w : Option AltitudeUncertaintyCode) → false ≡ is_some w → FitsAltitudeUncertainty w None
+no-height-fits (Some a) e = absurd (differ (sym e))
+no-height-fits None e = tt
+
+height-fits : (w : Option AltitudeUncertaintyCode) → true ≡ is_some w → FitsAltitudeUncertainty w (Some (height_or_0 w))
+height-fits (Some a) e = omega arith
+height-fits None e = absurd (differ e)
+
 module _ (w : Wanted) (t : Tame w) where
   -- the record of a kind that can hold what is wanted fits it
   record-fits : (k : Kind) → TakesPart k → Able w k → Fits w (wanted_record k w)
   record-fits = by_kind (λ k. Able w k → Fits w (wanted_record k w))
-      (λ a. record { latitudes = record-latitude Point w tt t; longitudes = record-longitude Point w tt t; altitudes = sym a.altitudes; areas = sym a.areas; heights = sym a.heights; confidences = a.confidences refl })
-      (λ a. record { latitudes = record-latitude Circle w tt t; longitudes = record-longitude Circle w tt t; altitudes = sym a.altitudes; areas = (sym a.areas, omega arith); heights = sym a.heights; confidences = a.confidences refl })
-      (λ a. record { latitudes = record-latitude Ellipse w tt t; longitudes = record-longitude Ellipse w tt t; altitudes = sym a.altitudes; areas = (sym a.areas, omega arith, omega arith, refl); heights = sym a.heights; confidences = refl })
-      (λ a. record { latitudes = record-latitude AltitudePoint w tt t; longitudes = record-longitude AltitudePoint w tt t; altitudes = (sym a.altitudes, point-altitude w); areas = sym a.areas; heights = sym a.heights; confidences = a.confidences refl })
-      (λ a. record { latitudes = record-latitude AltitudeEllipsoid w tt t; longitudes = record-longitude AltitudeEllipsoid w tt t; altitudes = (sym a.altitudes, ellipsoid-altitude w); areas = (sym a.areas, omega arith, omega arith, refl); heights = (sym a.heights, omega arith); confidences = refl })
+      (λ a. record { latitudes = record-latitude Point w tt t; longitudes = record-longitude Point w tt t; altitudes = none-fits w.altitude a.altitudes; areas = no-area-fits w.area a.areas; heights = no-height-fits w.altitude_uncertainty a.heights; confidences = a.confidences refl })
+      (λ a. record { latitudes = record-latitude Circle w tt t; longitudes = record-longitude Circle w tt t; altitudes = none-fits w.altitude a.altitudes; areas = circle-fits w.area a.areas; heights = no-height-fits w.altitude_uncertainty a.heights; confidences = a.confidences refl })
+      (λ a. record { latitudes = record-latitude Ellipse w tt t; longitudes = record-longitude Ellipse w tt t; altitudes = none-fits w.altitude a.altitudes; areas = axes-fit w.area a.areas; heights = no-height-fits w.altitude_uncertainty a.heights; confidences = refl })
+      (λ a. record { latitudes = record-latitude AltitudePoint w tt t; longitudes = record-longitude AltitudePoint w tt t; altitudes = own-fits w.altitude _ a.altitudes (point-altitude w); areas = no-area-fits w.area a.areas; heights = no-height-fits w.altitude_uncertainty a.heights; confidences = a.confidences refl })
+      (λ a. record { latitudes = record-latitude AltitudeEllipsoid w tt t; longitudes = record-longitude AltitudeEllipsoid w tt t; altitudes = own-fits w.altitude _ a.altitudes (ellipsoid-altitude w); areas = axes-fit w.area a.areas; heights = height-fits w.altitude_uncertainty a.heights; confidences = refl })
 
   -- ---- the message of a kind
 

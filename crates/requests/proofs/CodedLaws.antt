@@ -1,10 +1,9 @@
 -- What a field's coder leaves of a quantity: a code of the field, and then no refusal.
+use Rattle.std.specs.Prelude.{Some, None}
 use Prim.Native.Nat.{ℕ}
 use native.Mathlib.Omega.{arith}
 use Rattle.ground.specs.Answers.{done, refused}
 use Rattle.ground.proofs.AnswerLaws.{done-not-refused}
-use Rattle.ground.specs.declared.quantity.UncertaintySpeed.TheVariants as uncertain
-use Rattle.ground.specs.declared.quantity.Confidence.TheVariants as confident
 use Rattle.fields.specs.Fields.{Field, CodeOf, QuantityOf, Coding}
 use Rattle.fields.specs.Fields as field
 use Rattle.fields.specs.Quantities.{Held}
@@ -28,7 +27,7 @@ coded-held field.orientation x c p = omega (arith, p.code)
 coded-held field.bearing x c p = omega (arith, p.code)
 coded-held field.horizontal_speed x c p = omega (arith, p.code)
 coded-held field.vertical_speed x c p = omega (arith, p.size.code)
-coded-held field.uncertainty_speed (uncertain.Speed s) c p = omega (arith, p.code)
-coded-held field.uncertainty_speed uncertain.Missing c p = omega arith
-coded-held field.confidence (confident.PerCent n) c p = omega (arith, p.itself, p.most)
-coded-held field.confidence confident.Missing c p = omega arith
+coded-held field.uncertainty_speed (Some s) c p = omega (arith, p.code)
+coded-held field.uncertainty_speed None c p = omega arith
+coded-held field.confidence (Some n) c p = omega (arith, p.itself, p.most)
+coded-held field.confidence None c p = omega arith

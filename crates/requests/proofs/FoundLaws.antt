@@ -1,5 +1,6 @@
 -- WHICH KIND IS BEST, by what is asked: at most one kind can hold a request, but for an area alone, which a circle and an ellipse
 -- can.
+use Rattle.std.specs.Prelude.{is_some}
 use Prim.Native.Nat.{◌≤◌, ◌<◌}
 use mathlib.Core.Path.{◌≡◌, refl, sym, ◌∙◌, subst}
 use mathlib.Core.Bool.{true, false}
@@ -8,7 +9,7 @@ use Rattle.layout.specs.declared.shape.Kind.{Kind}
 use Rattle.layout.specs.declared.shape.Kind.TheVariants.{Point, Circle, Ellipse, AltitudePoint, AltitudeEllipsoid}
 use Rattle.requests.specs.declared.codes.Wanted.{Wanted}
 use Rattle.requests.specs.Choice.{Before}
-use Rattle.requests.specs.Codes.{Able, rank_of, BestKind}
+use Rattle.requests.specs.Codes.{area_or_0, Able, rank_of, BestKind}
 use Rattle.requests.proofs.HoldingLaws.{differ}
 use Rattle.requests.proofs.OrderLaws.{ended, place}
 use Rattle.requests.proofs.KindLaws.{by_kind, no_lower}
@@ -18,18 +19,8 @@ module _ (w : Wanted) where
   by-able P a b c d e k h = by_kind (λ j. Able w j → P j) a b c d e k h.part h
 
   -- what is asked for an altitude, an area, an altitude uncertainty
-  module _ (high : w.altitude.asked ≡ true) where
-    -- an area and an altitude uncertainty, or neither
-    pub no-kind-above : (w.area.asked ≡ true → w.altitude_uncertainty.asked ≡ false) → (w.area.asked ≡ false → w.altitude_uncertainty.asked ≡ false → w.confidence.0 ≡ 0 → ⊥) → (k : Kind) → Able w k → ⊥
-    no-kind-above flat unsure =
-        by-able (λ k. ⊥)
-        (λ a. differ (sym (a.altitudes ∙ high)))
-        (λ a. differ (sym (a.altitudes ∙ high)))
-        (λ a. differ (sym (a.altitudes ∙ high)))
-        (λ a. unsure (sym a.areas) (sym a.heights) (a.confidences refl))
-        (λ a. differ (a.heights ∙ flat (sym a.areas)))
-
-    module _ (wide : w.area.asked ≡ true) (tall : w.altitude_uncertainty.asked ≡ true) where
+  module _ (high : is_some w.altitude ≡ true) where
+    module _ (wide : is_some w.area ≡ true) (tall : is_some w.altitude_uncertainty ≡ true) where
       pub able-ellipsoid : Able w AltitudeEllipsoid
       able-ellipsoid = record { part = tt; altitudes = sym high; areas = sym wide; heights = sym tall; confidences = λ e. absurd (differ e) }
 
@@ -42,7 +33,7 @@ module _ (w : Wanted) where
           (λ a. absurd (differ (sym (a.areas ∙ wide))))
           (λ a. refl)
 
-    module _ (bare : w.area.asked ≡ false) (flat : w.altitude_uncertainty.asked ≡ false) (none : w.confidence.0 ≡ 0) where
+    module _ (bare : is_some w.area ≡ false) (flat : is_some w.altitude_uncertainty ≡ false) (none : w.confidence.0 ≡ 0) where
       pub able-level : Able w AltitudePoint
       able-level = record { part = tt; altitudes = sym high; areas = sym bare; heights = sym flat; confidences = λ e. none }
 
@@ -55,18 +46,8 @@ module _ (w : Wanted) where
           (λ a. refl)
           (λ a. absurd (differ (a.areas ∙ bare)))
 
-  module _ (low : w.altitude.asked ≡ false) where
-    -- an altitude uncertainty without an altitude
-    pub no-kind-aloft : w.altitude_uncertainty.asked ≡ true → (k : Kind) → Able w k → ⊥
-    no-kind-aloft tall =
-        by-able (λ k. ⊥)
-        (λ a. differ (sym (a.heights ∙ tall)))
-        (λ a. differ (sym (a.heights ∙ tall)))
-        (λ a. differ (sym (a.heights ∙ tall)))
-        (λ a. differ (a.altitudes ∙ low))
-        (λ a. differ (a.altitudes ∙ low))
-
-    module _ (bare : w.area.asked ≡ false) where
+  module _ (low : is_some w.altitude ≡ false) where
+    module _ (bare : is_some w.area ≡ false) where
       pub only-point : (k : Kind) → Able w k → k ≡ Point
       only-point =
           by-able (λ k. k ≡ Point)
@@ -76,14 +57,10 @@ module _ (w : Wanted) where
           (λ a. absurd (differ (a.altitudes ∙ low)))
           (λ a. absurd (differ (a.altitudes ∙ low)))
 
-      -- a confidence without an uncertainty
-      pub no-kind-sure : (w.confidence.0 ≡ 0 → ⊥) → (k : Kind) → Able w k → ⊥
-      no-kind-sure sure k a = sure ((subst (Able w) (only-point k a) a).confidences refl)
-
-      pub able-point : w.altitude_uncertainty.asked ≡ false → w.confidence.0 ≡ 0 → Able w Point
+      pub able-point : is_some w.altitude_uncertainty ≡ false → w.confidence.0 ≡ 0 → Able w Point
       able-point flat none = record { part = tt; altitudes = sym low; areas = sym bare; heights = sym flat; confidences = λ e. none }
 
-    module _ (wide : w.area.asked ≡ true) where
+    module _ (wide : is_some w.area ≡ true) where
       -- a circle or an ellipse
       pub by-area : (P : Kind → Type 0) → (Able w Circle → P Circle) → (Able w Ellipse → P Ellipse) → (k : Kind) → Able w k → P k
       by-area P c e =
@@ -94,7 +71,7 @@ module _ (w : Wanted) where
           (λ a. absurd (differ (a.altitudes ∙ low)))
           (λ a. absurd (differ (a.altitudes ∙ low)))
 
-      module _ (flat : w.altitude_uncertainty.asked ≡ false) where
+      module _ (flat : is_some w.altitude_uncertainty ≡ false) where
         pub able-ellipse : Able w Ellipse
         able-ellipse = record { part = tt; altitudes = sym low; areas = sym wide; heights = sym flat; confidences = λ e. absurd (differ e) }
 
@@ -113,9 +90,9 @@ module _ (w : Wanted) (taken : Kind → Type 0) where
     none_before = λ j b t. subst (λ (i : Kind). Before (rank_of i w) (rank_of k w) → ⊥) (sym (only j b t)) (not_itself k);
   }
 
-  module _ (low : w.altitude.asked ≡ false) (wide : w.area.asked ≡ true) where
+  module _ (low : is_some w.altitude ≡ false) (wide : is_some w.area ≡ true) where
     -- a circle for axes of one code, or where no ellipse is taken
-    pub circle-best : Able w Circle → taken Circle → (taken Ellipse → w.area.semi_major.0 ≤ w.area.semi_minor.0) → BestKind w taken Circle
+    pub circle-best : Able w Circle → taken Circle → (taken Ellipse → (area_or_0 w.area).semi_major.0 ≤ (area_or_0 w.area).semi_minor.0) → BestKind w taken Circle
     circle-best a l round = record {
       able = a;
       listed = l;
@@ -125,7 +102,7 @@ module _ (w : Wanted) (taken : Kind → Type 0) where
     }
 
     -- an ellipse where it is tighter, or where no circle is taken
-    pub ellipse-best : Able w Ellipse → taken Ellipse → (Able w Circle → taken Circle → w.area.semi_minor.0 < w.area.semi_major.0) → BestKind w taken Ellipse
+    pub ellipse-best : Able w Ellipse → taken Ellipse → (Able w Circle → taken Circle → (area_or_0 w.area).semi_minor.0 < (area_or_0 w.area).semi_major.0) → BestKind w taken Ellipse
     ellipse-best a l tighter = record {
       able = a;
       listed = l;

@@ -1,4 +1,5 @@
 -- Where w has the codes of q, a record holds q exactly when it fits w.
+use Rattle.std.specs.Prelude.{Option, Some, None}
 use Prim.Native.Nat.{ℕ, ◌≤◌, ◌<◌}
 use mathlib.Core.Path.{◌≡◌, sym, ap, ◌∙◌, subst}
 use mathlib.Core.Bool.{true, false}
@@ -7,12 +8,13 @@ use lib.Dec.{T}
 use Rattle.ground.specs.Answers.{done}
 use Rattle.ground.specs.Sets.{LeastCode}
 use Rattle.ground.proofs.AnswerLaws.{said-one}
-use Rattle.ground.specs.declared.quantity.Confidence.{Confidence}
-use Rattle.ground.specs.declared.quantity.Confidence.TheVariants as confident
 use Rattle.ground.specs.declared.code.AltitudeCode.{AltitudeCode}
 use Rattle.ground.specs.declared.code.AltitudeUncertaintyCode.{AltitudeUncertaintyCode}
 use Rattle.ground.specs.declared.code.ConfidenceCode.{ConfidenceCode}
 use Rattle.ground.specs.declared.code.OrientationCode.{OrientationCode}
+use Rattle.ground.specs.declared.quantity.Millimetres.{Millimetres}
+use Rattle.ground.specs.declared.quantity.PerCent.{PerCent}
+use Rattle.ground.specs.declared.quantity.SignedMillimetres.{SignedMillimetres}
 use Rattle.radii.specs.Covering.{Covers}
 use Rattle.radii.proofs.CoverLaws.{covers_up}
 use Rattle.fields.specs.Fields.{Field, CodeOf, QuantityOf, Coding}
@@ -21,17 +23,11 @@ use Rattle.fields.proofs.OneAnswer.{coding-one}
 use Rattle.layout.specs.declared.shape.Shape.{Shape}
 use Rattle.layout.specs.Shapes.{rows_of}
 use Rattle.requests.specs.declared.Request.{Request}
-use Rattle.requests.specs.declared.Altitude.{Altitude}
-use Rattle.requests.specs.declared.Altitude.TheVariants as level
 use Rattle.requests.specs.declared.Horizontal.{Horizontal}
 use Rattle.requests.specs.declared.Horizontal.TheVariants as horizontal
-use Rattle.requests.specs.declared.AltitudeUncertainty.{AltitudeUncertainty}
-use Rattle.requests.specs.declared.AltitudeUncertainty.TheVariants as height
-use Rattle.requests.specs.declared.codes.AltitudeWanted.{AltitudeWanted}
 use Rattle.requests.specs.declared.codes.AreaWanted.{AreaWanted}
-use Rattle.requests.specs.declared.codes.AltitudeUncertaintyWanted.{AltitudeUncertaintyWanted}
 use Rattle.requests.specs.declared.codes.Wanted.{Wanted}
-use Rattle.requests.specs.Holding.{Had, has, has_not, Area, circle, ellipse, no_area, altitude_had, area_had, altitude_uncertainty_had, confidence_had, HoldsAltitude, HoldsArea, HoldsAltitudeUncertainty, HoldsConfidence, Holds}
+use Rattle.requests.specs.Holding.{Area, circle, ellipse, no_area, altitude_had, area_had, altitude_uncertainty_had, confidence_had, HoldsAltitude, HoldsArea, HoldsAltitudeUncertainty, HoldsConfidence, Holds}
 use Rattle.requests.specs.Codes.{AltitudeCodes, AreaCodes, AltitudeUncertaintyCodes, CodesOf, FitsAltitude, FitsArea, FitsAltitudeUncertainty, FitsConfidence, Fits}
 
 pub differ : true ≡ false → ⊥
@@ -52,68 +48,82 @@ module _ {scale num den : ℕ} {R K : ℕ} (p : LeastCode (Covers scale num den)
 
 -- ---- each thing that may be asked
 
-altitude-fits : (a : Altitude) (w : AltitudeWanted) (v : Had AltitudeCode) → AltitudeCodes a w → HoldsAltitude a v → FitsAltitude w v
-altitude-fits (level.Asked a) w (has c) p h = (p.0, code_one field.altitude a c w.code h p.1)
-altitude-fits (level.Asked a) w has_not p h = absurd h
-altitude-fits level.NotAsked w (has c) p h = absurd h
-altitude-fits level.NotAsked w has_not p h = p.0
+altitude-fits : (a : Option SignedMillimetres) (w v : Option AltitudeCode) → AltitudeCodes a w → HoldsAltitude a v → FitsAltitude w v
+altitude-fits (Some a) (Some b) (Some c) p h = code_one field.altitude a c b h p
+altitude-fits (Some a) (Some b) None p h = absurd h
+altitude-fits (Some a) None v p h = absurd p
+altitude-fits None (Some b) v p h = absurd p
+altitude-fits None None (Some c) p h = absurd h
+altitude-fits None None None p h = tt
 
-fits-altitude : (a : Altitude) (w : AltitudeWanted) (v : Had AltitudeCode) → AltitudeCodes a w → FitsAltitude w v → HoldsAltitude a v
-fits-altitude (level.Asked a) w (has c) p f = subst (λ (d : AltitudeCode). Coding field.altitude a (done d)) (sym f.1) p.1
-fits-altitude (level.Asked a) w has_not p f = differ (sym p.0 ∙ f)
-fits-altitude level.NotAsked w (has c) p f = differ (sym f.0 ∙ p.0)
-fits-altitude level.NotAsked w has_not p f = tt
+fits-altitude : (a : Option SignedMillimetres) (w v : Option AltitudeCode) → AltitudeCodes a w → FitsAltitude w v → HoldsAltitude a v
+fits-altitude (Some a) (Some b) (Some c) p f = subst (λ (d : AltitudeCode). Coding field.altitude a (done d)) (sym f) p
+fits-altitude (Some a) (Some b) None p f = absurd f
+fits-altitude (Some a) None v p f = absurd p
+fits-altitude None (Some b) v p f = absurd p
+fits-altitude None None (Some c) p f = absurd f
+fits-altitude None None None p f = tt
 
 pub same_turn : (N M : OrientationCode) → N.0 ≡ 0 → M.0 ≡ 0 → N ≡ M
 same_turn N M e d = ap (λ (n : ℕ). record { 0 = n }) (e ∙ sym d)
 
-area-fits : (h : Horizontal) (w : AreaWanted) (v : Area) → AreaCodes h w → HoldsArea h v → FitsArea w v
-area-fits (horizontal.Circle R) w (circle K) p h = (p.is_asked, above p.major K.0 h)
-area-fits (horizontal.Circle R) w (ellipse K J N) p h = (p.is_asked, above p.major K.0 h.0, above p.minor J.0 h.1, same_turn N w.orientation h.2 p.turn)
-area-fits (horizontal.Circle R) w no_area p h = absurd h
-area-fits (horizontal.Ellipse R S a) w (circle K) p h = (p.is_asked, above p.major K.0 h)
-area-fits (horizontal.Ellipse R S a) w (ellipse K J N) p h = (p.is_asked, above p.major K.0 h.0, above p.minor J.0 h.1, code_one field.orientation a N w.orientation h.2 p.turn)
-area-fits (horizontal.Ellipse R S a) w no_area p h = absurd h
-area-fits horizontal.NotAsked w (circle K) p h = absurd h
-area-fits horizontal.NotAsked w (ellipse K J N) p h = absurd h
-area-fits horizontal.NotAsked w no_area p h = p.is_asked
+area-fits : (h : Horizontal) (w : Option AreaWanted) (v : Area) → AreaCodes h w → HoldsArea h v → FitsArea w v
+area-fits (horizontal.Circle R) (Some w) (circle K) p h = above p.major K.0 h
+area-fits (horizontal.Circle R) (Some w) (ellipse K J N) p h = (above p.major K.0 h.0, above p.minor J.0 h.1, same_turn N w.orientation h.2 p.turn)
+area-fits (horizontal.Circle R) (Some w) no_area p h = absurd h
+area-fits (horizontal.Circle R) None v p h = absurd p
+area-fits (horizontal.Ellipse R S a) (Some w) (circle K) p h = above p.major K.0 h
+area-fits (horizontal.Ellipse R S a) (Some w) (ellipse K J N) p h = (above p.major K.0 h.0, above p.minor J.0 h.1, code_one field.orientation a N w.orientation h.2 p.turn)
+area-fits (horizontal.Ellipse R S a) (Some w) no_area p h = absurd h
+area-fits (horizontal.Ellipse R S a) None v p h = absurd p
+area-fits horizontal.NotAsked (Some w) v p h = absurd p
+area-fits horizontal.NotAsked None (circle K) p h = absurd h
+area-fits horizontal.NotAsked None (ellipse K J N) p h = absurd h
+area-fits horizontal.NotAsked None no_area p h = tt
 
-fits-area : (h : Horizontal) (w : AreaWanted) (v : Area) → AreaCodes h w → FitsArea w v → HoldsArea h v
-fits-area (horizontal.Circle R) w (circle K) p f = covering p.major (omega arith) K.0 f.1
-fits-area (horizontal.Circle R) w (ellipse K J N) p f =
-    (covering p.major (omega arith) K.0 f.1, covering p.minor (omega arith) J.0 f.2, ap (λ (n : OrientationCode). n.0) f.3 ∙ p.turn)
-fits-area (horizontal.Circle R) w no_area p f = differ (sym p.is_asked ∙ f)
-fits-area (horizontal.Ellipse R S a) w (circle K) p f = covering p.major (omega arith) K.0 f.1
-fits-area (horizontal.Ellipse R S a) w (ellipse K J N) p f =
-    (covering p.major (omega arith) K.0 f.1, covering p.minor (omega arith) J.0 f.2, subst (λ (n : OrientationCode). Coding field.orientation a (done n)) (sym f.3) p.turn)
-fits-area (horizontal.Ellipse R S a) w no_area p f = differ (sym p.is_asked ∙ f)
-fits-area horizontal.NotAsked w (circle K) p f = differ (sym f.0 ∙ p.is_asked)
-fits-area horizontal.NotAsked w (ellipse K J N) p f = differ (sym f.0 ∙ p.is_asked)
-fits-area horizontal.NotAsked w no_area p f = tt
+fits-area : (h : Horizontal) (w : Option AreaWanted) (v : Area) → AreaCodes h w → FitsArea w v → HoldsArea h v
+fits-area (horizontal.Circle R) (Some w) (circle K) p f = covering p.major (omega arith) K.0 f
+fits-area (horizontal.Circle R) (Some w) (ellipse K J N) p f =
+    (covering p.major (omega arith) K.0 f.0, covering p.minor (omega arith) J.0 f.1, ap (λ (n : OrientationCode). n.0) f.2 ∙ p.turn)
+fits-area (horizontal.Circle R) (Some w) no_area p f = absurd f
+fits-area (horizontal.Circle R) None v p f = absurd p
+fits-area (horizontal.Ellipse R S a) (Some w) (circle K) p f = covering p.major (omega arith) K.0 f
+fits-area (horizontal.Ellipse R S a) (Some w) (ellipse K J N) p f =
+    (covering p.major (omega arith) K.0 f.0, covering p.minor (omega arith) J.0 f.1, subst (λ (n : OrientationCode). Coding field.orientation a (done n)) (sym f.2) p.turn)
+fits-area (horizontal.Ellipse R S a) (Some w) no_area p f = absurd f
+fits-area (horizontal.Ellipse R S a) None v p f = absurd p
+fits-area horizontal.NotAsked (Some w) v p f = absurd p
+fits-area horizontal.NotAsked None (circle K) p f = absurd f
+fits-area horizontal.NotAsked None (ellipse K J N) p f = absurd f
+fits-area horizontal.NotAsked None no_area p f = tt
 
-height-fits : (u : AltitudeUncertainty) (w : AltitudeUncertaintyWanted) (v : Had AltitudeUncertaintyCode) → AltitudeUncertaintyCodes u w → HoldsAltitudeUncertainty u v → FitsAltitudeUncertainty w v
-height-fits (height.Asked R) w (has K) p h = (p.0, above p.1 K.0 h)
-height-fits (height.Asked R) w has_not p h = absurd h
-height-fits height.NotAsked w (has K) p h = absurd h
-height-fits height.NotAsked w has_not p h = p.0
+height-fits : (u : Option Millimetres) (w v : Option AltitudeUncertaintyCode) → AltitudeUncertaintyCodes u w → HoldsAltitudeUncertainty u v → FitsAltitudeUncertainty w v
+height-fits (Some R) (Some L) (Some K) p h = above p K.0 h
+height-fits (Some R) (Some L) None p h = absurd h
+height-fits (Some R) None v p h = absurd p
+height-fits None (Some L) v p h = absurd p
+height-fits None None (Some K) p h = absurd h
+height-fits None None None p h = tt
 
-fits-height : (u : AltitudeUncertainty) (w : AltitudeUncertaintyWanted) (v : Had AltitudeUncertaintyCode) → AltitudeUncertaintyCodes u w → FitsAltitudeUncertainty w v → HoldsAltitudeUncertainty u v
-fits-height (height.Asked R) w (has K) p f = covering p.1 (omega arith) K.0 f.1
-fits-height (height.Asked R) w has_not p f = differ (sym p.0 ∙ f)
-fits-height height.NotAsked w (has K) p f = differ (sym f.0 ∙ p.0)
-fits-height height.NotAsked w has_not p f = tt
+fits-height : (u : Option Millimetres) (w v : Option AltitudeUncertaintyCode) → AltitudeUncertaintyCodes u w → FitsAltitudeUncertainty w v → HoldsAltitudeUncertainty u v
+fits-height (Some R) (Some L) (Some K) p f = covering p (omega arith) K.0 f
+fits-height (Some R) (Some L) None p f = absurd f
+fits-height (Some R) None v p f = absurd p
+fits-height None (Some L) v p f = absurd p
+fits-height None None (Some K) p f = absurd f
+fits-height None None None p f = tt
 
-confidence-fits : (a : Confidence) (c : ConfidenceCode) (v : Had ConfidenceCode) → Coding field.confidence a (done c) → HoldsConfidence a v → FitsConfidence c v
-confidence-fits (confident.PerCent n) c (has d) p h = code_one field.confidence (confident.PerCent n) d c h p
-confidence-fits (confident.PerCent n) c has_not p h = absurd h
-confidence-fits confident.Missing c (has d) p h = code_one field.confidence confident.Missing d c h p
-confidence-fits confident.Missing c has_not p h = p
+confidence-fits : (a : Option PerCent) (c : ConfidenceCode) (v : Option ConfidenceCode) → Coding field.confidence a (done c) → HoldsConfidence a v → FitsConfidence c v
+confidence-fits (Some n) c (Some d) p h = code_one field.confidence (Some n) d c h p
+confidence-fits (Some n) c None p h = absurd h
+confidence-fits None c (Some d) p h = code_one field.confidence None d c h p
+confidence-fits None c None p h = p
 
-fits-confidence : (a : Confidence) (c : ConfidenceCode) (v : Had ConfidenceCode) → Coding field.confidence a (done c) → FitsConfidence c v → HoldsConfidence a v
-fits-confidence (confident.PerCent n) c (has d) p f = subst (λ (e : ConfidenceCode). Coding field.confidence (confident.PerCent n) (done e)) (sym f) p
-fits-confidence (confident.PerCent n) c has_not p f = omega (arith, p.itself, p.least)
-fits-confidence confident.Missing c (has d) p f = subst (λ (e : ConfidenceCode). Coding field.confidence confident.Missing (done e)) (sym f) p
-fits-confidence confident.Missing c has_not p f = tt
+fits-confidence : (a : Option PerCent) (c : ConfidenceCode) (v : Option ConfidenceCode) → Coding field.confidence a (done c) → FitsConfidence c v → HoldsConfidence a v
+fits-confidence (Some n) c (Some d) p f = subst (λ (e : ConfidenceCode). Coding field.confidence (Some n) (done e)) (sym f) p
+fits-confidence (Some n) c None p f = omega (arith, p.itself, p.least)
+fits-confidence None c (Some d) p f = subst (λ (e : ConfidenceCode). Coding field.confidence None (done e)) (sym f) p
+fits-confidence None c None p f = tt
 
 -- ---- the record
 

@@ -1,25 +1,26 @@
 -- WHICH KINDS can hold a request, and that the record of a kind is the best of that kind, over codes.
+use Rattle.std.specs.Prelude.{Option, Some, None, is_some}
 use Prim.Native.Nat.{ℕ, ◌≤◌}
-use mathlib.Core.Path.{◌≡◌, refl, sym, subst}
+use mathlib.Core.Path.{◌≡◌, refl, subst}
 use mathlib.Core.Bool.{Bool, true, false, cond}
 use mathlib.Core.List.{List, [], ◌∷◌}
 use native.Mathlib.Omega.{arith}
 use Rattle.ground.specs.declared.code.AltitudeCode.{AltitudeCode}
 use Rattle.ground.specs.declared.code.AltitudeUncertaintyCode.{AltitudeUncertaintyCode}
 use Rattle.ground.specs.declared.code.ConfidenceCode.{ConfidenceCode}
+use Rattle.ground.specs.declared.code.OrientationCode.{OrientationCode}
+use Rattle.ground.specs.declared.code.UncertaintyCode.{UncertaintyCode}
 use Rattle.layout.specs.declared.shape.Kind.{Kind}
 use Rattle.layout.specs.declared.shape.Kind.TheVariants.{Nothing, Point, Circle, Ellipse, Polygon, AltitudePoint, AltitudeEllipsoid, Arc}
 use Rattle.layout.specs.declared.shape.Shape.{Shape}
 use Rattle.layout.specs.Layout.{Row, shape_rows, semi_major, uncertainty}
 use Rattle.layout.specs.Rows.{length_of}
 use Rattle.layout.specs.Shapes.{rows_of}
-use Rattle.requests.specs.declared.codes.AltitudeWanted.{AltitudeWanted}
 use Rattle.requests.specs.declared.codes.AreaWanted.{AreaWanted}
-use Rattle.requests.specs.declared.codes.AltitudeUncertaintyWanted.{AltitudeUncertaintyWanted}
 use Rattle.requests.specs.declared.codes.Wanted.{Wanted}
-use Rattle.requests.specs.Holding.{has, has_not, circle, ellipse, no_area, altitude_had, area_had, altitude_uncertainty_had, confidence_had}
+use Rattle.requests.specs.Holding.{circle, ellipse, no_area, altitude_had, area_had, altitude_uncertainty_had, confidence_had}
 use Rattle.requests.specs.Choice.{TakesPart, Before, rank, major_of, minor_of, height_of}
-use Rattle.requests.specs.Codes.{has_row, FitsAltitude, FitsArea, FitsAltitudeUncertainty, FitsConfidence, Fits, Able, rank_of}
+use Rattle.requests.specs.Codes.{area_or_0, height_or_0, has_row, FitsAltitude, FitsArea, FitsAltitudeUncertainty, FitsConfidence, Fits, Able, rank_of}
 use Rattle.requests.proofs.HoldingLaws.{differ}
 use Rattle.requests.proofs.OrderLaws.{ended, place}
 
@@ -40,21 +41,28 @@ part-rows = by_kind (λ k. (n : ℕ) → shape_rows k n ≡ shape_rows k 0) (λ 
 
 -- ---- what fits is of a kind that has what is asked
 
-altitude-asked : (w : AltitudeWanted) (c : AltitudeCode) (b : Bool) → FitsAltitude w (cond b (has c) has_not) → b ≡ w.asked
-altitude-asked w c true f = sym f.0
-altitude-asked w c false f = sym f
+altitude-asked : (w : Option AltitudeCode) (c : AltitudeCode) (b : Bool) → FitsAltitude w (cond b (Some c) None) → b ≡ is_some w
+altitude-asked (Some a) c true f = refl
+altitude-asked (Some a) c false f = absurd f
+altitude-asked None c true f = absurd f
+altitude-asked None c false f = refl
 
-height-asked : (w : AltitudeUncertaintyWanted) (c : AltitudeUncertaintyCode) (b : Bool) → FitsAltitudeUncertainty w (cond b (has c) has_not) → b ≡ w.asked
-height-asked w c true f = sym f.0
-height-asked w c false f = sym f
+height-asked : (w : Option AltitudeUncertaintyCode) (c : AltitudeUncertaintyCode) (b : Bool) → FitsAltitudeUncertainty w (cond b (Some c) None) → b ≡ is_some w
+height-asked (Some a) c true f = refl
+height-asked (Some a) c false f = absurd f
+height-asked None c true f = absurd f
+height-asked None c false f = refl
 
-area-asked : (w : AreaWanted) (x : Shape) (a b : Bool)
-    → FitsArea w (cond a (ellipse x.semi_major x.semi_minor x.orientation) (cond b (circle x.uncertainty) no_area)) → cond a true b ≡ w.asked
-area-asked w x true b f = sym f.0
-area-asked w x false true f = sym f.0
-area-asked w x false false f = sym f
+area-asked : (w : Option AreaWanted) (x : Shape) (a b : Bool)
+    → FitsArea w (cond a (ellipse x.semi_major x.semi_minor x.orientation) (cond b (circle x.uncertainty) no_area)) → cond a true b ≡ is_some w
+area-asked (Some w) x true b f = refl
+area-asked (Some w) x false true f = refl
+area-asked (Some w) x false false f = absurd f
+area-asked None x true b f = absurd f
+area-asked None x false true f = absurd f
+area-asked None x false false f = refl
 
-confidence-asked : (w c : ConfidenceCode) (b : Bool) → FitsConfidence w (cond b (has c) has_not) → b ≡ false → w.0 ≡ 0
+confidence-asked : (w c : ConfidenceCode) (b : Bool) → FitsConfidence w (cond b (Some c) None) → b ≡ false → w.0 ≡ 0
 confidence-asked w c true f e = absurd (differ e)
 confidence-asked w c false f e = f
 
@@ -70,6 +78,20 @@ module _ (w : Wanted) (x : Shape) (part : TakesPart x.kind) (f : Fits w x) where
     heights = height-asked w.altitude_uncertainty x.altitude_uncertainty _ (subst (λ (rows : List Row). FitsAltitudeUncertainty w.altitude_uncertainty (altitude_uncertainty_had rows x)) own-rows f.heights);
     confidences = confidence-asked w.confidence x.confidence _ (subst (λ (rows : List Row). FitsConfidence w.confidence (confidence_had rows x)) own-rows f.confidences);
   }
+
+-- ---- what fits covers what is wanted
+
+circle-covers : (w : Option AreaWanted) (K : UncertaintyCode) → FitsArea w (circle K) → (area_or_0 w).semi_major.0 ≤ K.0
+circle-covers (Some w) K f = f
+circle-covers None K f = absurd f
+
+axes-cover : (w : Option AreaWanted) (K J : UncertaintyCode) (N : OrientationCode) → FitsArea w (ellipse K J N) → ((area_or_0 w).semi_major.0 ≤ K.0) × ((area_or_0 w).semi_minor.0 ≤ J.0)
+axes-cover (Some w) K J N f = (f.0, f.1)
+axes-cover None K J N f = absurd f
+
+height-covers : (w : Option AltitudeUncertaintyCode) (K : AltitudeUncertaintyCode) → FitsAltitudeUncertainty w (Some K) → (height_or_0 w).0 ≤ K.0
+height-covers (Some L) K f = f
+height-covers None K f = absurd f
 
 -- ---- THE BEST OF ONE KIND: no record of the kind that fits is before the one with the wanted codes
 
@@ -89,10 +111,10 @@ module _ (w : Wanted) (x : Shape) where
   not_lower : (k : Kind) → TakesPart k → NotLower k
   not_lower = by_kind NotLower
       (λ a h. no_lower (omega arith) (omega arith) (omega arith))
-      (λ a h. no_lower a.1 a.1 (omega arith))
-      (λ a h. no_lower a.1 a.2 (omega arith))
+      (λ a h. let e = circle-covers w.area x.uncertainty a in no_lower e e (omega arith))
+      (λ a h. let e = axes-cover w.area x.semi_major x.semi_minor x.orientation a in no_lower e.0 e.1 (omega arith))
       (λ a h. no_lower (omega arith) (omega arith) (omega arith))
-      (λ a h. no_lower a.1 a.2 h.1)
+      (λ a h. let e = axes-cover w.area x.semi_major x.semi_minor x.orientation a in no_lower e.0 e.1 (height-covers w.altitude_uncertainty x.altitude_uncertainty h))
 
   pub none-lower : TakesPart x.kind → Fits w x → Before (rank x (length_of (shape_rows x.kind 0))) (rank_of x.kind w) → ⊥
   none-lower part f b =

@@ -1,16 +1,25 @@
 -- ONE ANSWER: the promise of the choice leaves one number, one length and one content of the buffer.
+use Rattle.std.specs.Prelude.{Result, Ok, Err}
 use Prim.Native.Nat.{ℕ}
-use mathlib.Core.Path.{◌≡◌, refl, ap}
+use mathlib.Core.Path.{◌≡◌, refl, sym, ap}
 use mathlib.Core.List.{List, ◌++◌}
 use native.Mathlib.Omega.{arith}
 use lib.ListN.{length, drop}
-use Rattle.ground.proofs.AnswerLaws.{outcome-one}
-use Rattle.layout.specs.declared.Written.{Written}
+use Rattle.ground.specs.Answers.{number_of, refusal_of, outcome_number, value_or}
+use Rattle.ground.proofs.AnswerLaws.{refusal-back, told-by, not-0}
+use Rattle.ground.specs.declared.refusals.Refusal.{Refusal}
 use Rattle.layout.specs.declared.shape.Kind.{Kind}
 use Rattle.requests.specs.declared.Request.{Request}
 use Rattle.requests.specs.Ranges.{RequestInRange, RequestCovered}
 use Rattle.requests.specs.Choice.{Best, Refuses, out_of_range, too_uncertain, none_holds, Chosen, refuses, too_short, writes, Chooses}
 use Rattle.requests.proofs.OneMessage.{best-one}
+
+-- an answer is told by its number and, where there is one, its value
+told : (a b : Result ℕ Refusal) → outcome_number a ≡ outcome_number b → value_or 0 a ≡ value_or 0 b → a ≡ b
+told (Ok x) (Ok y) e v = ap Ok v
+told (Ok x) (Err why) e v = absurd (not-0 why (sym e))
+told (Err why) (Ok y) e v = absurd (not-0 why e)
+told (Err a) (Err b) e v = ap Err (told-by number_of refusal_of refusal-back a b e)
 
 module _ (q : Request) (taken : Kind → Type 0) where
   refusal-one : {n m : ℕ} → Refuses q taken n → Refuses q taken m → n ≡ m
@@ -48,12 +57,10 @@ module _ (q : Request) (taken : Kind → Type 0) where
       let e = best-one q taken s t b b₁ in
       record { number = refl; long = ap length e; buffer = ap (λ (u : List ℕ). u ++ drop (length u) before) e }
 
-  module _ (before after after₁ : List ℕ) (a b : Written) (p : Chooses q taken before after a) (r : Chooses q taken before after₁ b) where
+  module _ (before after after₁ : List ℕ) (a b : Result ℕ Refusal) (p : Chooses q taken before after a) (r : Chooses q taken before after₁ b) where
     pub chooses-one : a ≡ b
     chooses-one =
-        let e = outcome-one a.outcome b.outcome (same before p r).number in
-        let l = (same before p r).long in
-        λ i. record { outcome = e i; length = l i }
+        told a b (same before p r).number (same before p r).long
 
     pub chosen-buffer-one : after ≡ after₁
     chosen-buffer-one = (same before p r).buffer

@@ -1,4 +1,5 @@
 -- One message is best: two that hold a request, of which neither is better, are the same but for spare bits.
+use Rattle.std.specs.Prelude.{Option, Some, None}
 use Prim.Native.Nat.{ℕ, zero, suc, ◌≤◌}
 use mathlib.Core.Path.{◌≡◌, refl, sym, ap, ◌∙◌, subst}
 use mathlib.Core.Bool.{Bool, true, false, cond}
@@ -7,7 +8,6 @@ use native.Mathlib.Omega.{arith}
 use lib.Dec.{eqb}
 use lib.ListN.{length}
 use borrow.Author.Tests.{lt-ltb}
-use Rattle.ground.specs.declared.quantity.Confidence.{Confidence}
 use Rattle.ground.specs.declared.code.AltitudeCode.{AltitudeCode}
 use Rattle.ground.specs.declared.code.AltitudeUncertaintyCode.{AltitudeUncertaintyCode}
 use Rattle.ground.specs.declared.code.ConfidenceCode.{ConfidenceCode}
@@ -15,6 +15,8 @@ use Rattle.ground.specs.declared.code.LatitudeCode.{LatitudeCode}
 use Rattle.ground.specs.declared.code.LongitudeCode.{LongitudeCode}
 use Rattle.ground.specs.declared.code.OrientationCode.{OrientationCode}
 use Rattle.ground.specs.declared.code.UncertaintyCode.{UncertaintyCode}
+use Rattle.ground.specs.declared.quantity.PerCent.{PerCent}
+use Rattle.ground.specs.declared.quantity.SignedMillimetres.{SignedMillimetres}
 use Rattle.octets.specs.Codes.{bit_of, complement}
 use Rattle.fields.specs.Fields as field
 use Rattle.layout.specs.declared.shape.Kind.{Kind}
@@ -31,11 +33,9 @@ use Rattle.layout.proofs.ShapeTrips.{sound-read}
 use Rattle.layout.proofs.WidthLaws.{shape_widest, shape-width}
 use Rattle.quantities.proofs.UnusedLaws.{by-use, no_number}
 use Rattle.requests.specs.declared.Request.{Request}
-use Rattle.requests.specs.declared.Altitude.{Altitude}
-use Rattle.requests.specs.declared.Altitude.TheVariants as level
 use Rattle.requests.specs.declared.Horizontal.{Horizontal}
 use Rattle.requests.specs.declared.Horizontal.TheVariants as horizontal
-use Rattle.requests.specs.Holding.{has, has_not, Area, circle, ellipse, no_area, altitude_had, area_had, altitude_uncertainty_had, confidence_had, HoldsAltitude, HoldsArea, HoldsConfidence, Holds}
+use Rattle.requests.specs.Holding.{Area, circle, ellipse, no_area, altitude_had, area_had, altitude_uncertainty_had, confidence_had, HoldsAltitude, HoldsArea, HoldsConfidence, Holds}
 use Rattle.requests.specs.Choice.{TakesPart, major_of, minor_of, height_of, Best}
 use Rattle.requests.specs.Codes.{has_row}
 use Rattle.requests.proofs.HoldingLaws.{differ, code_one}
@@ -57,17 +57,17 @@ kind-one k j a b e = sym (kind-back k a) ∙ ap kind-by e ∙ kind-back j b
 
 -- ---- what two messages that hold the request have is the same
 
-altitude-same : (a : Altitude) (b : Bool) (c d : AltitudeCode) → b ≡ true → HoldsAltitude a (cond b (has c) has_not) → HoldsAltitude a (cond b (has d) has_not) → c ≡ d
-altitude-same (level.Asked a) true c d e p q = code_one field.altitude a c d p q
-altitude-same (level.Asked a) false c d e p q = absurd p
-altitude-same level.NotAsked true c d e p q = absurd p
-altitude-same level.NotAsked false c d e p q = absurd (differ (sym e))
+altitude-same : (a : Option SignedMillimetres) (b : Bool) (c d : AltitudeCode) → b ≡ true → HoldsAltitude a (cond b (Some c) None) → HoldsAltitude a (cond b (Some d) None) → c ≡ d
+altitude-same (Some a) true c d e p q = code_one field.altitude a c d p q
+altitude-same (Some a) false c d e p q = absurd p
+altitude-same None true c d e p q = absurd p
+altitude-same None false c d e p q = absurd (differ (sym e))
 
-height-same : (b : Bool) (c d : AltitudeUncertaintyCode) → b ≡ true → height_of (cond b (has c) has_not) ≡ height_of (cond b (has d) has_not) → c.0 ≡ d.0
+height-same : (b : Bool) (c d : AltitudeUncertaintyCode) → b ≡ true → height_of (cond b (Some c) None) ≡ height_of (cond b (Some d) None) → c.0 ≡ d.0
 height-same true c d e h = h
 height-same false c d e h = absurd (differ (sym e))
 
-confidence-same : (a : Confidence) (b : Bool) (c d : ConfidenceCode) → b ≡ true → HoldsConfidence a (cond b (has c) has_not) → HoldsConfidence a (cond b (has d) has_not) → c ≡ d
+confidence-same : (a : Option PerCent) (b : Bool) (c d : ConfidenceCode) → b ≡ true → HoldsConfidence a (cond b (Some c) None) → HoldsConfidence a (cond b (Some d) None) → c ≡ d
 confidence-same a true c d e p q = code_one field.confidence a c d p q
 confidence-same a false c d e p q = absurd (differ (sym e))
 

@@ -27,7 +27,7 @@ use Rattle.layout.proofs.ShapeRecords.{sign-back, length-upto, values_of}
 use Rattle.layout.proofs.WidthLaws.{shape_widest}
 use Rattle.requests.specs.declared.codes.Wanted.{Wanted}
 use Rattle.requests.specs.Choice.{TakesPart}
-use Rattle.requests.specs.Codes.{Tame, wanted_number, row_number, wanted_record}
+use Rattle.requests.specs.Codes.{altitude_or_0, Tame, wanted_number, row_number, wanted_record}
 use Rattle.requests.proofs.KindLaws.{by_kind, part-rows}
 
 -- ---- a kind that takes part has for each field no row, or one of all the bits that the field has in any shape
@@ -82,7 +82,7 @@ module _ (k : Kind) (w : Wanted) (part : TakesPart k) (t : Tame w) where
   number_small (layout.latitude (suc i)) = omega arith
   number_small (layout.longitude zero) = turn_small w.longitude.0 t.longitudes
   number_small (layout.longitude (suc i)) = omega arith
-  number_small layout.depth = sign_small w.altitude.code.0
+  number_small layout.depth = sign_small (altitude_or_0 w.altitude).0
   number_small layout.altitude = t.altitudes
   number_small layout.uncertainty = t.majors
   number_small layout.semi_major = t.majors
@@ -160,11 +160,11 @@ module _ (k : Kind) (w : Wanted) (part : TakesPart k) (t : Tame w) where
   record-longitude = by_kind (λ j. (wanted_record j w).longitude ≡ w.longitude) same-longitude same-longitude same-longitude same-longitude same-longitude k part
 
 module _ (w : Wanted) where
-  same-altitude : ◌≡◌ {A = AltitudeCode} (record { 0 = sign_of (bit_of w.altitude.code.0); 1 = w.altitude.code.1 }) w.altitude.code
-  same-altitude = λ j. record { 0 = sign-back w.altitude.code.0 j; 1 = w.altitude.code.1 }
+  same-altitude : ◌≡◌ {A = AltitudeCode} (record { 0 = sign_of (bit_of (altitude_or_0 w.altitude).0); 1 = (altitude_or_0 w.altitude).1 }) (altitude_or_0 w.altitude)
+  same-altitude = λ j. record { 0 = sign-back (altitude_or_0 w.altitude).0 j; 1 = (altitude_or_0 w.altitude).1 }
 
-  pub point-altitude : (wanted_record AltitudePoint w).altitude ≡ w.altitude.code
+  pub point-altitude : (wanted_record AltitudePoint w).altitude ≡ (altitude_or_0 w.altitude)
   point-altitude = same-altitude
 
-  pub ellipsoid-altitude : (wanted_record AltitudeEllipsoid w).altitude ≡ w.altitude.code
+  pub ellipsoid-altitude : (wanted_record AltitudeEllipsoid w).altitude ≡ (altitude_or_0 w.altitude)
   ellipsoid-altitude = same-altitude

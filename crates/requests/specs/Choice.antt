@@ -1,10 +1,10 @@
 -- THE CHOICE of shape for one point, over all octet strings: demand 3.
-use Rattle.std.specs.Prelude.{◌≡◌, List, [], ◌∷◌, ◌++◌, ℕ, ◌/◌, ◌%◌, ◌^◌, ◌≤◌, ◌<◌, length, drop, get_or}
-use Rattle.ground.specs.Answers.{outcome_number}
-use Rattle.layout.specs.declared.Written.{Written}
+use Rattle.std.specs.Prelude.{◌≡◌, List, [], ◌∷◌, ◌++◌, ℕ, ◌/◌, ◌%◌, ◌^◌, ◌≤◌, ◌<◌, length, drop, get_or, Option, Some, None, Result}
+use Rattle.ground.specs.Answers.{outcome_number, value_or}
 use Rattle.layout.specs.declared.shape.Kind.{Kind}
 use Rattle.layout.specs.declared.shape.Kind.TheVariants.{Nothing, Point, Circle, Ellipse, Polygon, AltitudePoint, AltitudeEllipsoid, Arc}
 use Rattle.ground.specs.declared.code.AltitudeUncertaintyCode.{AltitudeUncertaintyCode}
+use Rattle.ground.specs.declared.refusals.Refusal.{Refusal}
 use Rattle.layout.specs.declared.shape.Shape.{Shape}
 use Rattle.layout.specs.Layout.{type_of}
 use Rattle.layout.specs.Rows.{message}
@@ -12,7 +12,7 @@ use Rattle.layout.specs.Demands.{ReadAnswer}
 use Rattle.layout.specs.Shapes.{rows_in, shape_in, rows_of, value_of}
 use Rattle.requests.specs.declared.Request.{Request}
 use Rattle.requests.specs.Ranges.{RequestInRange, RequestCovered}
-use Rattle.requests.specs.Holding.{Had, has, has_not, Area, circle, ellipse, no_area, area_had, altitude_uncertainty_had, Holds}
+use Rattle.requests.specs.Holding.{Area, circle, ellipse, no_area, area_had, altitude_uncertainty_had, Holds}
 
 -- ---- which messages are looked at
 
@@ -52,9 +52,9 @@ minor_of (circle K) = K.0
 minor_of (ellipse K J N) = J.0
 minor_of no_area = 0
 
-abbrev pub height_of : Had AltitudeUncertaintyCode → ℕ
-height_of (has K) = K.0
-height_of has_not = 0
+abbrev pub height_of : Option AltitudeUncertaintyCode → ℕ
+height_of (Some K) = K.0
+height_of None = 0
 
 -- the first number that differs is smaller
 pub data Before : List ℕ → List ℕ → Type 0 where
@@ -89,5 +89,5 @@ pub data Chosen (q : Request) (taken : Kind → Type 0) (before : List ℕ) : �
   too_short : {s : List ℕ} → RequestInRange q → RequestCovered q → Best q taken s → length before < length s → Chosen q taken before 10 0 before
   writes : {s : List ℕ} → RequestInRange q → RequestCovered q → Best q taken s → length s ≤ length before → Chosen q taken before 0 (length s) (s ++ drop (length s) before)
 
-abbrev pub Chooses : Request → (Kind → Type 0) → List ℕ → List ℕ → Written → Type 0
-Chooses q taken before after r = Chosen q taken before (outcome_number r.outcome) r.length after
+abbrev pub Chooses : Request → (Kind → Type 0) → List ℕ → List ℕ → Result ℕ Refusal → Type 0
+Chooses q taken before after r = Chosen q taken before (outcome_number r) (value_or 0 r) after

@@ -1,12 +1,11 @@
 -- What a request may ask: document 01, "Refusal numbers", 7 and 8.
-use Rattle.std.specs.Prelude.{◌≤◌}
+use Rattle.std.specs.Prelude.{◌≤◌, Option, Some, None}
+use Rattle.ground.specs.declared.quantity.Millimetres.{Millimetres}
 use Rattle.fields.specs.Fields.{OutOfRange, TooUncertain}
 use Rattle.fields.specs.Fields as field
 use Rattle.requests.specs.declared.Request.{Request}
 use Rattle.requests.specs.declared.Horizontal.{Horizontal}
 use Rattle.requests.specs.declared.Horizontal.TheVariants as horizontal
-use Rattle.requests.specs.declared.AltitudeUncertainty.{AltitudeUncertainty}
-use Rattle.requests.specs.declared.AltitudeUncertainty.TheVariants as height
 
 -- 7: a quantity outside its range, also a semi-minor above the semi-major
 abbrev pub HorizontalInRange : Horizontal → Type 0
@@ -26,9 +25,9 @@ HorizontalCovered (horizontal.Circle R) = TooUncertain field.uncertainty R → �
 HorizontalCovered (horizontal.Ellipse R S a) = (TooUncertain field.uncertainty R → ⊥) × (TooUncertain field.uncertainty S → ⊥)
 HorizontalCovered horizontal.NotAsked = Unit {0}
 
-abbrev pub AltitudeUncertaintyCovered : AltitudeUncertainty → Type 0
-AltitudeUncertaintyCovered (height.Asked R) = TooUncertain field.altitude_uncertainty R → ⊥
-AltitudeUncertaintyCovered height.NotAsked = Unit {0}
+abbrev pub AltitudeUncertaintyCovered : Option Millimetres → Type 0
+AltitudeUncertaintyCovered (Some R) = TooUncertain field.altitude_uncertainty R → ⊥
+AltitudeUncertaintyCovered None = Unit {0}
 
 pub record RequestCovered (q : Request) : Type 0 where
   pub horizontals : HorizontalCovered q.horizontal

@@ -1,36 +1,23 @@
-// The codes of a request. A code of what is not asked is zero.
+// The codes of a request: none of what is not asked.
 use ground::{
     AltitudeCode, AltitudeUncertaintyCode, ConfidenceCode, LatitudeCode, LongitudeCode,
     OrientationCode, UncertaintyCode,
 };
 
 #[derive(Clone, Copy)]
-pub struct AltitudeWanted {
-    pub asked: bool,
-    pub code: AltitudeCode,
-}
-
-#[derive(Clone, Copy)]
 pub struct AreaWanted {
-    pub asked: bool,
     pub semi_major: UncertaintyCode,
     pub semi_minor: UncertaintyCode,
     pub orientation: OrientationCode,
 }
 
 #[derive(Clone, Copy)]
-pub struct AltitudeUncertaintyWanted {
-    pub asked: bool,
-    pub code: AltitudeUncertaintyCode,
-}
-
-#[derive(Clone, Copy)]
 pub struct Wanted {
     pub latitude: LatitudeCode,
     pub longitude: LongitudeCode,
-    pub altitude: AltitudeWanted,
-    pub area: AreaWanted,
-    pub altitude_uncertainty: AltitudeUncertaintyWanted,
+    pub altitude: Option<AltitudeCode>,
+    pub area: Option<AreaWanted>,
+    pub altitude_uncertainty: Option<AltitudeUncertaintyCode>,
     // 0 where none is asked
     pub confidence: ConfidenceCode,
 }

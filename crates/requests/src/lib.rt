@@ -4,14 +4,8 @@
 
 mod codes;
 
-pub use codes::{AltitudeUncertaintyWanted, AltitudeWanted, AreaWanted, Wanted};
-use ground::{Confidence, Millidegrees, Millimetres, Nanodegrees, SignedMillimetres};
-
-#[derive(Clone, Copy)]
-pub enum Altitude {
-    Asked(SignedMillimetres),
-    NotAsked,
-}
+pub use codes::{AreaWanted, Wanted};
+use ground::{Millidegrees, Millimetres, Nanodegrees, PerCent, SignedMillimetres};
 
 // A horizontal uncertainty. The two axes of a circle are its radius.
 #[derive(Clone, Copy)]
@@ -25,18 +19,13 @@ pub enum Horizontal {
     NotAsked,
 }
 
-#[derive(Clone, Copy)]
-pub enum AltitudeUncertainty {
-    Asked(Millimetres),
-    NotAsked,
-}
-
+// What is not asked is `None`.
 #[derive(Clone, Copy)]
 pub struct Request {
     pub latitude: Nanodegrees,
     pub longitude: Nanodegrees,
-    pub altitude: Altitude,
+    pub altitude: Option<SignedMillimetres>,
     pub horizontal: Horizontal,
-    pub altitude_uncertainty: AltitudeUncertainty,
-    pub confidence: Confidence,
+    pub altitude_uncertainty: Option<Millimetres>,
+    pub confidence: Option<PerCent>,
 }

@@ -1,18 +1,15 @@
 -- Horizontal and vertical speed and their uncertainty, in metres per hour.
-use Rattle.std.specs.Prelude.{◌≡◌, ℕ, ◌*◌, ◌≤◌, ℤ}
-use Rattle.ground.specs.Answers.{number_of, Said, done, refused, Answer}
+use Rattle.std.specs.Prelude.{◌≡◌, ℕ, ◌*◌, ◌≤◌, ℤ, Result, Option, Some, None}
+use Rattle.ground.specs.Answers.{Said, Answer, said_of}
 use Rattle.ground.specs.Signs.{signed}
 use Rattle.ground.specs.Sets.{OfSign, LeastCode, GreatestCovered}
 use Rattle.ground.specs.declared.quantity.MetresPerHour.{MetresPerHour}
 use Rattle.ground.specs.declared.quantity.SignedMetresPerHour.{SignedMetresPerHour}
-use Rattle.ground.specs.declared.quantity.UncertaintySpeed.{UncertaintySpeed}
-use Rattle.ground.specs.declared.quantity.UncertaintySpeed.TheVariants.{Speed, Missing}
 use Rattle.ground.specs.declared.code.HorizontalSpeedCode.{HorizontalSpeedCode}
 use Rattle.ground.specs.declared.code.VerticalSpeedCode.{VerticalSpeedCode}
 use Rattle.ground.specs.declared.code.UncertaintySpeedCode.{UncertaintySpeedCode}
-use Rattle.speeds.specs.declared.UncertaintySpeedCoded.{UncertaintySpeedCoded}
-use Rattle.speeds.specs.declared.UncertaintySpeedCoded.TheVariants.{Code, Refused}
 use Rattle.ground.specs.Steps.{SpeedStep}
+use Rattle.ground.specs.declared.refusals.Refusal.{Refusal}
 
 -- Horizontal speed, 16 bits.
 abbrev pub HorizontalSpeedSet : HorizontalSpeedCode → ℕ → Type 0
@@ -37,26 +34,22 @@ pub record SpeedCovers (N s : ℕ) : Type 0 where
   pub within : s ≤ 1000 * N
 
 -- the least of the codes 0 to 254 that covers s; 255 means not given
-abbrev pub UncertaintySpeedCodes : UncertaintySpeed → ℕ → Type 0
-UncertaintySpeedCodes (Speed s) N = LeastCode SpeedCovers 254 s.0 N
-UncertaintySpeedCodes Missing N = N ≡ 255
+abbrev pub UncertaintySpeedCodes : Option MetresPerHour → ℕ → Type 0
+UncertaintySpeedCodes (Some s) N = LeastCode SpeedCovers 254 s.0 N
+UncertaintySpeedCodes None N = N ≡ 255
 
 -- above what the largest code covers
-abbrev pub TooFast : UncertaintySpeed → Type 0
-TooFast (Speed s) = SpeedCovers 254 s.0 → ⊥
-TooFast Missing = ⊥
+abbrev pub TooFast : Option MetresPerHour → Type 0
+TooFast (Some s) = SpeedCovers 254 s.0 → ⊥
+TooFast None = ⊥
 
-abbrev pub UncertaintySpeedCoding : UncertaintySpeed → Said UncertaintySpeedCode → Type 0
+abbrev pub UncertaintySpeedCoding : Option MetresPerHour → Said UncertaintySpeedCode → Type 0
 UncertaintySpeedCoding u = Answer (λ c. UncertaintySpeedCodes u c.0) 8 (TooFast u)
 
 -- the greatest speed that N covers, or none
-abbrev pub UncertaintySpeedReporting : UncertaintySpeedCode → UncertaintySpeed → Type 0
-UncertaintySpeedReporting c (Speed s) = GreatestCovered SpeedCovers 254 c.0 s.0
-UncertaintySpeedReporting c Missing = c.0 ≡ 255
+abbrev pub UncertaintySpeedReporting : UncertaintySpeedCode → Option MetresPerHour → Type 0
+UncertaintySpeedReporting c (Some s) = GreatestCovered SpeedCovers 254 c.0 s.0
+UncertaintySpeedReporting c None = c.0 ≡ 255
 
-abbrev pub said_uncertainty_speed : UncertaintySpeedCoded → Said UncertaintySpeedCode
-said_uncertainty_speed (Code c) = done c
-said_uncertainty_speed (Refused why) = refused (number_of why)
-
-abbrev pub CodedUncertaintySpeed : UncertaintySpeed → UncertaintySpeedCoded → Type 0
-CodedUncertaintySpeed u r = UncertaintySpeedCoding u (said_uncertainty_speed r)
+abbrev pub CodedUncertaintySpeed : Option MetresPerHour → Result UncertaintySpeedCode Refusal → Type 0
+CodedUncertaintySpeed u r = UncertaintySpeedCoding u (said_of r)

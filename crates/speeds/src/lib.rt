@@ -4,15 +4,9 @@
 ghost use Rattle.speeds.specs.Speeds.{HorizontalSpeedSet, HorizontalSpeedReporting, VerticalSpeedSet, VerticalSpeedReporting, CodedUncertaintySpeed, UncertaintySpeedReporting};
 
 use ground::{
-    HorizontalSpeedCode, MetresPerHour, Parts, Refusal, SignedMetresPerHour, UncertaintySpeed,
-    UncertaintySpeedCode, VerticalSpeedCode, Whole,
+    HorizontalSpeedCode, MetresPerHour, Parts, Refusal, SignedMetresPerHour, UncertaintySpeedCode,
+    VerticalSpeedCode, Whole,
 };
-
-#[derive(Clone, Copy)]
-pub enum UncertaintySpeedCoded {
-    Code(UncertaintySpeedCode),
-    Refused(Refusal),
-}
 
 pub fn horizontal_speed_code(speed: MetresPerHour) -> HorizontalSpeedCode
     ensures { HorizontalSpeedSet result speed.0 }
@@ -53,27 +47,23 @@ pub fn reported_vertical_speed(code: VerticalSpeedCode) -> SignedMetresPerHour
 }
 
 // A missing one is code 255, which no speed has.
-pub fn uncertainty_speed_code(uncertainty: UncertaintySpeed) -> UncertaintySpeedCoded
+pub fn uncertainty_speed_code(
+    uncertainty: Option<MetresPerHour>,
+) -> Result<UncertaintySpeedCode, Refusal>
     ensures { CodedUncertaintySpeed uncertainty result }
 {
     match uncertainty {
-        UncertaintySpeed::Speed(speed) => {
-            let s = speed.0;
-            if 254000 < s {
-                return UncertaintySpeedCoded::Refused(Refusal::UncertaintyTooLarge);
-            }
-            UncertaintySpeedCoded::Code(UncertaintySpeedCode(((s + 999) / 1000) as u8))
-        }
-        UncertaintySpeed::Missing => UncertaintySpeedCoded::Code(UncertaintySpeedCode(255)),
+        None => Ok(UncertaintySpeedCode(255)),
+        Some(MetresPerHour(s @ 0..=254000)) => Ok(UncertaintySpeedCode(((s + 999) / 1000) as u8)),
+        Some(_) => Err(Refusal::UncertaintyTooLarge),
     }
 }
 
-pub fn reported_uncertainty_speed(code: UncertaintySpeedCode) -> UncertaintySpeed
+pub fn reported_uncertainty_speed(code: UncertaintySpeedCode) -> Option<MetresPerHour>
     ensures { UncertaintySpeedReporting code result }
 {
-    let n = code.0;
-    if n == 255 {
-        return UncertaintySpeed::Missing;
+    match code.0 {
+        255 => None,
+        n => Some(MetresPerHour(u32::from(n) * 1000)),
     }
-    UncertaintySpeed::Speed(MetresPerHour(n as u32 * 1000))
 }

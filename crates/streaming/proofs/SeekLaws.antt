@@ -11,25 +11,21 @@ use Rattle.streaming.proofs.LineLaws.{no-newlines}
 never : {A : Type 0} {b : Bool} → b ≡ true → b ≡ false → A
 never p q = absurd (subst T (sym p ∙ q) tt)
 
--- no line takes so many reads
-abbrev pub most_reads : ℕ
-most_reads = 4611686018427387905
-
--- WHERE THE SEARCH STANDS: `front` was dropped of the line, which goes on with what is held; each read but the last brought an octet
-pub record Seeking (start block : List ℕ) (before i : Input) (left : ℕ) : Type 0 where
+-- WHERE THE SEARCH STANDS: `front` was dropped of the line, which goes on with what is held; each of the reads that are done, but the last, brought an octet
+pub record Seeking (start block : List ℕ) (before i : Input) (done : ℕ) : Type 0 where
   pub read : List ℕ
   pub front : List ℕ
   pub goes : Goes start before.taken before.source block i.taken i.source read front
   pub clean : NoNewline front
   pub none_dropped : i.long ≡ false → front ≡ []
   pub too_long : i.long ≡ true → longest_line < length front
-  pub each : i.source.over ≡ false → most_reads ≤ length read + left
-  pub most : most_reads ≤ length read + left + 1
+  pub each : i.source.over ≡ false → done ≤ length read
+  pub most : done ≤ length read + 1
 
 no-octets : NoNewline []
 no-octets = record { none = λ k h e. absurd (omega arith) }
 
-pub seek-start : {block : List ℕ} {i : Input} → i.long ≡ false → Seeking block block i i most_reads
+pub seek-start : {block : List ℕ} {i : Input} → i.long ≡ false → Seeking block block i i 0
 seek-start short = record {
   read = [];
   front = [];
@@ -57,7 +53,7 @@ pub next-from : {start block : List ℕ} {before i r : Input} → Started before
 next-from s = next-same s.same_source s.same_taken
 
 -- the octets from `taken` up to `end`
-module _ {start block : List ℕ} {before i : Input} {left : ℕ} (s : Seeking start block before i left) (end : ℕ)
+module _ {start block : List ℕ} {before i : Input} {done : ℕ} (s : Seeking start block before i done) (end : ℕ)
     (after : i.taken ≤ end) (inside : end ≤ i.source.fill) (fits : i.source.fill ≤ length block)
     (no-newline : (k : ℕ) → k < end → i.taken ≤ k → get_or block k 0 ≡ 10 → ⊥) where
   abbrev part : List ℕ
@@ -137,7 +133,7 @@ module _ (block : List ℕ) (i : Input) {end : ℕ} (fits : i.source.fill ≤ le
   pub found-there : end < i.source.fill → get_or block end 0 ≡ 10
   found-there h = sym (get_or-take i.source.fill block end 0 h) ∙ f.found (omega (arith, length-take-le i.source.fill block fits))
 
-module _ {start block : List ℕ} {before i : Input} {left : ℕ} (s : Seeking start block before i left) (fits : i.source.fill ≤ length block) where
+module _ {start block : List ℕ} {before i : Input} {done : ℕ} (s : Seeking start block before i done) (fits : i.source.fill ≤ length block) where
   -- a line with its newline
   pub next-found : {end : ℕ} {r : Input} → FirstMark 10 (take i.source.fill block) i.taken end → end < i.source.fill → Cut i end (end + 1) r → NextLine start block before r
   next-found {end} {r} f h c = record {
@@ -164,7 +160,7 @@ module _ {start block : List ℕ} {before i : Input} {left : ℕ} (s : Seeking s
       })
 
   -- what is held is dropped, where it is too much
-  seek-shorter : {m : Input} → NoNewline (octets_from block i.taken i.source) → SoundInput i → Drops i m → Seeking start block before m left
+  seek-shorter : {m : Input} → NoNewline (octets_from block i.taken i.source) → SoundInput i → Drops i m → Seeking start block before m done
   seek-shorter clean sound (same e) = rw e s
   seek-shorter {m} clean sound (dropped more e t l) = record {
     read = s.read;
@@ -178,11 +174,11 @@ module _ {start block : List ℕ} {before i : Input} {left : ℕ} (s : Seeking s
   }
 
 -- too many reads
-pub next-many : {start block : List ℕ} {before i : Input} {left : ℕ} → Seeking start block before i left → SoundInput i → i.ready ≡ false → left ≡ 0 → NextLine start block before i
+pub next-many : {start block : List ℕ} {before i : Input} {done : ℕ} → Seeking start block before i done → SoundInput i → i.ready ≡ false → 4611686018427387905 ≤ done → NextLine start block before i
 next-many s sound not_ready e = record { sound = sound; line = λ x. never x not_ready; none = λ _. many s.goes (omega (arith, s.most)) }
 
 -- a read failed
-pub next-failed : {start block : List ℕ} {before i : Input} {left : ℕ} → Seeking start block before i left → SoundInput i → i.ready ≡ false → i.source.failed ≡ true → NextLine start block before i
+pub next-failed : {start block : List ℕ} {before i : Input} {done : ℕ} → Seeking start block before i done → SoundInput i → i.ready ≡ false → i.source.failed ≡ true → NextLine start block before i
 next-failed s sound not_ready e = record { sound = sound; line = λ x. never x not_ready; none = λ _. failed s.goes e }
 
 -- the line that is held, and none
@@ -193,8 +189,8 @@ pub held_none : {block : List ℕ} {i r : Input} → Started i r → HeldLine bl
 held_none s = record { sound = s.sound; line = λ x. never x s.not_ready; same_source = s.same_source; same_taken = λ _. s.same_taken }
 
 -- more is read
-seek-more : {start block after : List ℕ} {before i r : Input} {left : ℕ} → Seeking start block before i left → 0 < left → i.source.over ≡ false → Refilled block after i r → Seeking start after before r (left - 1)
-seek-more {start} {block} {after} {before} {i} {r} {left} s h o f =
+seek-more : {start block after : List ℕ} {before i r : Input} {done : ℕ} → Seeking start block before i done → i.source.over ≡ false → Refilled block after i r → Seeking start after before r (done + 1)
+seek-more {start} {block} {after} {before} {i} {r} {done} s o f =
     let piece : List ℕ = drop (i.source.fill - i.taken) (octets_from after 0 r.source) in
     let long = length-append s.read piece in
     record {
@@ -209,12 +205,12 @@ seek-more {start} {block} {after} {before} {i} {r} {left} s h o f =
     }
 
 -- a turn of the search
-pub seek-turn : {start block after : List ℕ} {before i m r : Input} {left end : ℕ} → Seeking start block before i left → 0 < left → SoundInput i → i.source.fill ≤ length block
-    → FirstMark 10 (take i.source.fill block) i.taken end → i.source.fill ≤ end → i.source.over ≡ false → Shortened i m → Refilled block after m r → Seeking start after before r (left - 1)
-seek-turn {start} {block} {after} {before} {i} {m} {r} {left} {end} s h sound fits f all o short more =
+pub seek-turn : {start block after : List ℕ} {before i m r : Input} {done end : ℕ} → Seeking start block before i done → SoundInput i → i.source.fill ≤ length block
+    → FirstMark 10 (take i.source.fill block) i.taken end → i.source.fill ≤ end → i.source.over ≡ false → Shortened i m → Refilled block after m r → Seeking start after before r (done + 1)
+seek-turn {start} {block} {after} {before} {i} {m} {r} {done} {end} s sound fits f all o short more =
     let e : end ≡ i.source.fill = omega (arith, within block i fits f) in
     let clean : NoNewline (octets_from block i.taken i.source) = whole e in
-    seek-more (seek-shorter s fits clean sound short.drops) h (same_over short.drops) more
+    seek-more (seek-shorter s fits clean sound short.drops) (same_over short.drops) more
   where
     whole : end ≡ i.source.fill → NoNewline (octets_from block i.taken i.source)
     whole e = part-clean s i.source.fill sound.order (omega arith) fits (rw e at (none_before block i fits f))

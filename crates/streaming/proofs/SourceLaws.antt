@@ -1,16 +1,10 @@
 -- What a read leaves, and reads in a row: what was held and what was read is what was taken and what is held.
-use Rattle.std.proofs.Common.{◌≡◌, ℕ, zero, suc, ◌+◌, ◌-◌, ◌<◌, ◌≤◌, Bool, true, false, T, eqb, List, [], ◌++◌, length, take, drop, sym, refl, ap, ◌∙◌, subst, append_assoc, append-nil, arith, length-drop, take-append-drop, length-take-le, take-take, drop-drop, take-add, eq-eqb, eqb-true}
-use borrow.Author.Tests.{eqb-false}
+use Rattle.std.proofs.Common.{◌≡◌, ℕ, ◌+◌, ◌-◌, ◌≤◌, Bool, true, false, T, List, [], ◌++◌, length, take, drop, sym, refl, ap, ◌∙◌, subst, append_assoc, append-nil, arith, length-drop, length-take-le, take-append-drop, drop-drop, take-add, Ok}
 use borrow.Rule.Slice.PartMut.{put_mid, same_len_mid, take_put}
-use Rattle.streaming.specs.declared.source.Got.{Got}
 use Rattle.streaming.specs.declared.source.Source.{Source}
-use Rattle.streaming.specs.Sources.{unread_yet, no_octets, octets_from, ReadBehind, ReadMore, Goes, here, takes, reads}
+use Rattle.streaming.specs.Sources.{unread_yet, octets_from, ReadBehind, ReadMore, Goes, here, takes, reads}
 
 -- ---- one read
-
-some_more : (m n : ℕ) → eqb n 0 ≡ false → m < m + n
-some_more m zero e = absurd (eqb-false 0 0 e refl)
-some_more m (suc n) e = omega arith
 
 -- the buffer has at least so many octets; they are as they were, and it is as long
 pub record SameFront (kept : ℕ) (before b : List ℕ) : Type 0 where
@@ -18,44 +12,15 @@ pub record SameFront (kept : ℕ) (before b : List ℕ) : Type 0 where
   pub front : take kept b ≡ take kept before
   pub size : length b ≡ length before
 
-module _ {kept : ℕ} {before : List ℕ} where
-  -- what is lent from `kept` on comes back as v
-  pub tried : (b v : List ℕ) → SameFront kept before b → length v ≡ length (take (length b - kept) (drop kept b)) → SameFront kept before (put_mid kept (length b - kept) b v)
-  tried b v s whole =
-      let size : length (put_mid kept (length b - kept) b v) ≡ length b = same_len_mid kept (length b - kept) b v whole in
-      record { enough = omega (arith, s.enough); front = take_put kept (length b - kept) b v s.enough ∙ s.front; size = size ∙ s.size }
-
-  pub some_read : (b v : List ℕ) (n : ℕ) → SameFront kept before b → length v ≡ length (take (length b - kept) (drop kept b)) → n ≤ length v
-      → ReadBehind kept before (put_mid kept (length b - kept) b v) (record { octets = n; failed = false })
-  some_read b v n s whole h =
-      let t : SameFront kept before (put_mid kept (length b - kept) b v) = tried b v s whole in
-      record {
-        front = t.front;
-        size = t.size;
-        inside = omega (arith, s.enough, s.size, t.size, length-drop kept b, length-take-le (length b - kept) (drop kept b) (omega (arith, length-drop kept b)));
-        nothing = λ e. absurd (subst T (sym e) tt);
-      }
-
-  pub none_read : {b : List ℕ} {got : Got} → SameFront kept before b → got ≡ no_octets → ReadBehind kept before b got
-  none_read {b} s e = subst (ReadBehind kept before b) (sym e) (record { front = s.front; size = s.size; inside = omega (arith, s.enough); nothing = λ _. refl })
-
--- b is the buffer with the octets from `at` on moved to its start, B that with what was read behind them
-pub more-read : (buf b B : List ℕ) (at : ℕ) (s : Source) (got : Got) → length b ≡ length buf → take (s.fill - at) b ≡ octets_from buf at s → ReadBehind (s.fill - at) b B got
-    → ReadMore buf B at s (record { fill = s.fill - at + got.octets; over = eqb got.octets 0; failed = got.failed })
-more-read buf b B at s got l moved read =
-    let m : ℕ = s.fill - at in
-    let n : ℕ = got.octets in
-    let f : m + n - 0 ≡ m + n = omega arith in
+-- what is lent from `kept` on comes back as v, with n octets read
+pub some_read : {E : Type 0} {kept : ℕ} {before : List ℕ} (b v : List ℕ) (n : ℕ) → SameFront kept before b → length v ≡ length (take (length b - kept) (drop kept b)) → n ≤ length v
+    → ReadBehind {E = E} kept before (put_mid kept (length b - kept) b v) (Ok n)
+some_read {kept = kept} b v n s whole h =
+    let size : length (put_mid kept (length b - kept) b v) ≡ length b = same_len_mid kept (length b - kept) b v whole in
     record {
-      size = read.size ∙ l;
-      inside = read.inside;
-      longer = omega arith;
-      kept = rw (f, take-take m (m + n) B (omega arith)) (read.front ∙ moved);
-      grown = some_more m n;
-      over = λ e.
-          let z : m + n - 0 ≡ m = omega (arith, eqb-true n 0 e) in
-          ap (λ (k : ℕ). take k B) z ∙ read.front ∙ moved;
-      failed = λ e. eq-eqb n 0 (read.nothing e);
+      front = take_put kept (length b - kept) b v s.enough ∙ s.front;
+      size = size ∙ s.size;
+      inside = omega (arith, s.enough, size, length-drop kept b, length-take-le (length b - kept) (drop kept b) (omega (arith, length-drop kept b)));
     }
 
 -- the octets that were held, and the piece behind them

@@ -1,7 +1,5 @@
 -- What is known of what was written.
-use Rattle.std.specs.Prelude.{◌≡◌, ℕ, ◌+◌, ◌%◌, ◌^◌, ◌≤◌, true, false, List, length}
-use Rattle.streaming.specs.declared.sink.Progress.{Progress}
-use Rattle.streaming.specs.declared.sink.Progress.TheVariants.{Done, Lost}
+use Rattle.std.specs.Prelude.{◌≡◌, ℕ, ◌+◌, ◌%◌, ◌^◌, ◌≤◌, true, false, List, length, Result, IfOk}
 use Rattle.streaming.specs.declared.sink.Sink.{Sink}
 
 -- nothing is written, and the output is open
@@ -14,6 +12,5 @@ pub record Wrote (text : List ℕ) (s r : Sink) : Type 0 where
   pub failed : r.closed ≡ true → r.written ≡ s.written
 
 -- so much of the text, and no more than there is
-abbrev pub WroteSome : ℕ → Progress → Type 0
-WroteSome long (Done n) = n ≤ long
-WroteSome long Lost = Unit {0}
+abbrev pub WroteSome : {E : Type 0} → ℕ → Result ℕ E → Type 0
+WroteSome long r = IfOk r (λ n. n ≤ long)

@@ -1,27 +1,26 @@
 -- What is known of what was read.
-use Rattle.std.specs.Prelude.{◌≡◌, ℕ, ◌+◌, ◌-◌, ◌<◌, ◌≤◌, true, false, List, [], ◌++◌, length, take, drop}
-use Rattle.streaming.specs.declared.source.Got.{Got}
+use Rattle.std.specs.Prelude.{◌≡◌, ℕ, ◌+◌, ◌-◌, ◌<◌, ◌≤◌, true, false, List, [], ◌++◌, length, take, drop, Result, Ok, Err}
 use Rattle.streaming.specs.declared.source.Source.{Source}
 
 -- nothing is read, and the input is not over
 abbrev pub unread_yet : Source
 unread_yet = record { fill = 0; over = false; failed = false }
 
--- what a read that failed brought
-abbrev pub no_octets : Got
-no_octets = record { octets = 0; failed = true }
+-- how many octets a read brought: one that failed, none
+abbrev pub brought : {E : Type 0} → Result ℕ E → ℕ
+brought (Ok n) = n
+brought (Err e) = 0
 
 -- the octets from `at` on that were read
 abbrev pub octets_from : List ℕ → ℕ → Source → List ℕ
 octets_from buf at s = take (s.fill - at) (drop at buf)
 
--- ALL THAT IS KNOWN OF A READ: the octets before it are as they were, the buffer is as long, and what came is inside; one that failed brought nothing.
+-- ALL THAT IS KNOWN OF A READ: the octets before it are as they were, the buffer is as long, and what came is inside.
 -- Which octets came, and that it failed, is the system's to say
-pub record ReadBehind (kept : ℕ) (before after : List ℕ) (got : Got) : Type 0 where
+pub record ReadBehind {E : Type 0} (kept : ℕ) (before after : List ℕ) (got : Result ℕ E) : Type 0 where
   pub front : take kept after ≡ take kept before
   pub size : length after ≡ length before
-  pub inside : kept + got.octets ≤ length after
-  pub nothing : got.failed ≡ true → got.octets ≡ 0
+  pub inside : kept + brought got ≤ length after
 
 -- what was read stands behind the octets from `at` on, which stand at the start now; nothing is left to read exactly where nothing was read
 pub record ReadMore (before after : List ℕ) (at : ℕ) (s r : Source) : Type 0 where

@@ -7,10 +7,5 @@ pub fn shift(buf: &mut [u8], at: usize, fill: usize)
     requires { (at ≤ fill) × (fill ≤ length buf.old) }
     ensures { Shifted buf.old at fill buf.new }
 {
-    let size = fill - at;
-    let mut i = 0;
-    while i < size {
-        buf[i] = buf[at + i];
-        i += 1;
-    }
+    buf.copy_within(at..fill, 0);
 }

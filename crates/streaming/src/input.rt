@@ -58,8 +58,7 @@ pub fn read_line(rt: &HostRuntime, block: &mut [u8; 65536], before: Input) -> In
     ensures { NextLine block.old block.new before result }
 {
     let mut input = started(before);
-    let mut reads = MOST_READS;
-    while reads > 0 {
+    for _ in 0..MOST_READS {
         let end = newline(block, input);
         let source = input.source;
         if end < source::filled(source) {
@@ -72,7 +71,6 @@ pub fn read_line(rt: &HostRuntime, block: &mut [u8; 65536], before: Input) -> In
             return last_line(input);
         }
         input = refilled(rt, block, shortened(input));
-        reads -= 1;
     }
     input
 }
@@ -89,9 +87,8 @@ fn started(before: Input) -> Input
 }
 
 // The place of the first newline that is not yet taken, or the end of what was read where there is none.
-fn newline(block: &[u8], input: Input) -> usize
-    requires block_len { length block.now ≡ 65536 }
-    requires sound_input { SoundInput input }
+fn newline(block: &[u8; 65536], input: Input) -> usize
+    requires { SoundInput input }
     ensures { FirstMark 10 (take input.source.fill block.now) input.taken result }
 {
     let source = input.source;
@@ -159,9 +156,8 @@ fn shortened(before: Input) -> Input
 }
 
 // Reads once, behind what is not yet taken.
-fn refilled(rt: &HostRuntime, block: &mut [u8], before: Input) -> Input
-    requires block_len { length block.old ≡ 65536 }
-    requires sound_input { SoundInput before }
+fn refilled(rt: &HostRuntime, block: &mut [u8; 65536], before: Input) -> Input
+    requires { SoundInput before }
     ensures { Refilled block.old block.new before result }
 {
     let mut input = before;

@@ -117,8 +117,7 @@ fn end_written(rt: &HostRuntime, out: &mut [u8; 65536], output: Output) -> Outpu
 }
 
 // Writes the answers that are put.
-fn written(rt: &HostRuntime, out: &[u8], output: Output) -> Output
-    requires out_len { length out.now ≡ 65536 }
+fn written(rt: &HostRuntime, out: &[u8; 65536], output: Output) -> Output
     requires sound_output { SoundOutput output }
     requires closed_value { output.sink.closed ≡ false }
     ensures { Written out.now output result }

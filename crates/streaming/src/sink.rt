@@ -3,7 +3,7 @@ ghost use Rattle.std.specs.Prelude.{◌≡◌, ◌≤◌, false, length};
 ghost use Rattle.streaming.specs.Sinks.{unwritten_yet, Wrote, WroteSome};
 
 use crate::calls;
-use std::io::Print;
+use std::io::{Error, Print};
 
 #[derive(Clone, Copy)]
 pub struct Sink {
@@ -11,13 +11,6 @@ pub struct Sink {
     written: u64,
     // a write failed: the output is closed
     closed: bool,
-}
-
-// How much of a text is written, or that a write failed.
-#[derive(Clone, Copy)]
-enum Progress {
-    Done(usize),
-    Lost,
 }
 
 pub fn unwritten() -> Sink
@@ -40,49 +33,43 @@ pub fn write_text(rt: &HostRuntime, text: &[u8], sink: Sink) -> Sink
     requires { sink.closed ≡ false }
     ensures { Wrote text.now sink result }
 {
-    if write_whole(rt, text) {
+    if let Err(error) = write_whole(rt, text) {
+        calls::fail(rt, "gad: standard output", error);
         return Sink {
-            written: std::num::wrapping_add_u64(sink.written, text.len() as u64),
-            closed: false,
+            written: sink.written,
+            closed: true,
         };
     }
     Sink {
-        written: sink.written,
-        closed: true,
+        written: sink.written.wrapping_add(text.len() as u64),
+        closed: false,
     }
 }
 
 // Writes what is left until nothing is, however much the system takes at a time.
-fn write_whole(rt: &HostRuntime, text: &[u8]) -> bool {
+fn write_whole(rt: &HostRuntime, text: &[u8]) -> Result<(), Error> {
     let mut done = 0;
-    let mut tries = calls::MOST_TRIES;
-    while tries > 0 {
+    for _ in 0..calls::MOST_TRIES {
         if done == text.len() {
-            return true;
+            return Ok(());
         }
-        let Progress::Done(next) = write_some(rt, text, done) else {
-            return false;
-        };
-        done = next;
-        tries -= 1;
+        done = write_some(rt, text, done)?;
     }
-    calls::fail(rt, "gad: standard output", calls::cut_short());
-    false
+    Err(calls::cut_short())
 }
 
-// Writes once, from `done` on.
-fn write_some(rt: &HostRuntime, text: &[u8], done: usize) -> Progress
+// Writes once, from `done` on, and answers the place up to which the text is written.
+fn write_some(rt: &HostRuntime, text: &[u8], done: usize) -> Result<usize, Error>
     requires { done ≤ length text.now }
     ensures { WroteSome (length text.now) result }
 {
     let error = match rt.stdout().write_some(&text[done..]) {
         Ok(0) => calls::nothing_taken(),
-        Ok(put) => return Progress::Done(done + put),
+        Ok(put) => return Ok(done + put),
         Err(error) => error,
     };
     if calls::again(error) {
-        return Progress::Done(done);
+        return Ok(done);
     }
-    calls::fail(rt, "gad: standard output", error);
-    Progress::Lost
+    Err(error)
 }

@@ -1,7 +1,7 @@
 // What was read of standard input. Its fields are private: that octets came, that the input is over or that a read failed, only a
 // read can say.
 ghost use Rattle.std.specs.Prelude.{◌≡◌, ◌≤◌, length};
-ghost use Rattle.streaming.specs.Sources.{unread_yet, no_octets, ReadBehind, ReadMore};
+ghost use Rattle.streaming.specs.Sources.{unread_yet, ReadBehind, ReadMore};
 
 use crate::{block, calls};
 use std::io::{Error, Read};
@@ -13,13 +13,6 @@ pub struct Source {
     // a read gave nothing: nothing is left to read
     over: bool,
     // a read failed, which was said on standard error: nothing more is read
-    failed: bool,
-}
-
-// What a read brought.
-#[derive(Clone, Copy)]
-struct Got {
-    octets: usize,
     failed: bool,
 }
 
@@ -51,7 +44,7 @@ pub fn is_failed(source: Source) -> bool
     source.failed
 }
 
-// Moves the octets from `at` on to the start, and reads once, behind them.
+// Moves the octets from `at` on to the start, and reads once, behind them. Why a read failed is said on standard error.
 pub fn read_more(rt: &HostRuntime, buf: &mut [u8], at: usize, source: Source) -> Source
     requires { (at ≤ source.fill) × (source.fill ≤ length buf.old) }
     ensures { ReadMore buf.old buf.new at source result }
@@ -59,9 +52,13 @@ pub fn read_more(rt: &HostRuntime, buf: &mut [u8], at: usize, source: Source) ->
     let fill = source.fill;
     block::shift(buf, at, fill);
     let kept = fill - at;
-    let got = read_behind(rt, buf, kept);
-    let more = got.octets;
-    let failed = got.failed;
+    let (more, failed) = match read_behind(rt, buf, kept) {
+        Ok(octets) => (octets, false),
+        Err(error) => {
+            calls::fail(rt, "gad: standard input", error);
+            (0, true)
+        }
+    };
     Source {
         fill: kept + more,
         over: more == 0,
@@ -69,38 +66,20 @@ pub fn read_more(rt: &HostRuntime, buf: &mut [u8], at: usize, source: Source) ->
     }
 }
 
-// Reads once, behind so many octets, and says how many came. A read that fails brings none, and is said on standard error.
-fn read_behind(rt: &HostRuntime, buf: &mut [u8], kept: usize) -> Got
+// Reads once, behind so many octets, and answers how many came.
+fn read_behind(rt: &HostRuntime, buf: &mut [u8], kept: usize) -> Result<usize, Error>
     requires { kept ≤ length buf.old }
     ensures { ReadBehind kept buf.old buf.new result }
 {
-    let mut tries = calls::MOST_TRIES;
-    while tries > 0 {
+    for _ in 0..calls::MOST_TRIES {
         match rt.stdin().read(&mut buf[kept..]) {
-            Ok(octets) => {
-                return Got {
-                    octets,
-                    failed: false,
-                };
-            }
+            Ok(octets) => return Ok(octets),
             Err(error) => {
                 if !calls::again(error) {
-                    return nothing_read(rt, error);
+                    return Err(error);
                 }
             }
         }
-        tries -= 1;
     }
-    nothing_read(rt, calls::cut_short())
-}
-
-// Says on standard error that a read failed, and why.
-fn nothing_read(rt: &HostRuntime, error: Error) -> Got
-    ensures { result ≡ no_octets }
-{
-    calls::fail(rt, "gad: standard input", error);
-    Got {
-        octets: 0,
-        failed: true,
-    }
+    Err(calls::cut_short())
 }

@@ -1,10 +1,8 @@
 -- Laws of the fields of a line.
-use Rattle.std.proofs.Common.{◌≡◌, ℕ, zero, suc, ◌+◌, ◌-◌, ◌*◌, ◌<◌, ◌≤◌, Bool, true, false, cond, T, eqb, List, [], ◌∷◌, ◌++◌, length, get_or, take, drop, ℤ, sym, refl, ap, ◌∙◌, subst, ⊎_elim, append_assoc, append-nil, add-zero, arith, length-drop, get_or-drop, take_all, drop-drop, ne_eqb, eqb-true}
+use Rattle.std.proofs.Common.{◌≡◌, ℕ, zero, suc, ◌+◌, ◌-◌, ◌*◌, ◌<◌, ◌≤◌, Bool, true, false, cond, T, eqb, List, [], ◌∷◌, ◌++◌, length, get_or, take, drop, ℤ, sym, refl, ap, ◌∙◌, subst, ⊎_elim, append_assoc, append-nil, add-zero, arith, length-drop, get_or-drop, take_all, drop-drop, ne_eqb, eqb-true, Option, Some, None}
 use Rattle.text.proofs.OutputLaws.{split}
 use Rattle.text.specs.Marks.{FirstMark}
 use Rattle.ground.specs.declared.signs.Parts.{Parts}
-use Rattle.text.specs.declared.numeral.Numeral.{Numeral}
-use Rattle.text.specs.declared.numeral.Numeral.TheVariants.{Number, Nothing}
 use Rattle.text.specs.Numerals.{is_digit, number_from, digits_of, numeral_of}
 use Rattle.text.specs.Widths.{Means}
 use Rattle.text.specs.LineFields.{fields_from, fields_of, field_at, IsAbsent, Starts}
@@ -103,29 +101,29 @@ alone s h = alone-from [] s h
 
 -- ---- a number has no space in it
 
-nothing_written : {A : Type 0} {p : Parts} → Nothing ≡ Number p → A
+nothing_written : {A : Type 0} {p : Parts} → None ≡ Some p → A
 nothing_written e = let z : ◌≡◌ {A = ℕ} 0 1 = cc in absurd (omega arith)
 
-digit-first : {n : Numeral} {p : Parts} (c : Bool) → cond c n Nothing ≡ Number p → (c ≡ true) × (n ≡ Number p)
+digit-first : {n : Option Parts} {p : Parts} (c : Bool) → cond c n None ≡ Some p → (c ≡ true) × (n ≡ Some p)
 digit-first true e = (refl, e)
 digit-first false e = nothing_written e
 
 digit-no-space : {b : ℕ} → is_digit b ≡ true → b ≡ 32 → ⊥
 digit-no-space d z = let q : false ≡ true = rw z at d in subst T (sym q) tt
 
-digits-uncut : (f s : List ℕ) (negative : Bool) (v : ℕ) {p : Parts} → number_from negative v s ≡ Number p → fields_from f s ≡ (f ++ s) ∷ []
+digits-uncut : (f s : List ℕ) (negative : Bool) (v : ℕ) {p : Parts} → number_from negative v s ≡ Some p → fields_from f s ≡ (f ++ s) ∷ []
 unfolding fields_from number_from
 digits-uncut f [] negative v h = rw append-nil
 digits-uncut f (b ∷ s) negative v h =
     let d = digit-first (is_digit b) h in
     rw (ne_eqb b 32 (digit-no-space d.0), digits-uncut (f ++ b ∷ []) s negative (10 * v + (b - 48)) d.1, append_assoc)
 
-behind-sign : (f s : List ℕ) {p : Parts} → digits_of true s ≡ Number p → fields_from f s ≡ (f ++ s) ∷ []
+behind-sign : (f s : List ℕ) {p : Parts} → digits_of true s ≡ Some p → fields_from f s ≡ (f ++ s) ∷ []
 unfolding digits_of
 behind-sign f [] h = nothing_written h
 behind-sign f (b ∷ s) h = digits-uncut f (b ∷ s) true 0 h
 
-signed_by : (b : ℕ) (s : List ℕ) {p : Parts} (c : Bool) → eqb b 45 ≡ c → cond c (digits_of true s) (digits_of false (b ∷ s)) ≡ Number p → fields_of (b ∷ s) ≡ (b ∷ s) ∷ []
+signed_by : (b : ℕ) (s : List ℕ) {p : Parts} (c : Bool) → eqb b 45 ≡ c → cond c (digits_of true s) (digits_of false (b ∷ s)) ≡ Some p → fields_of (b ∷ s) ≡ (b ∷ s) ∷ []
 unfolding fields_from digits_of
 signed_by b s true e h = rw (ne_eqb b 32 (λ z. absurd (omega (arith, eqb-true b 45 e)))) (behind-sign (b ∷ []) s h)
 signed_by b s false e h = digits-uncut [] (b ∷ s) false 0 h

@@ -1,9 +1,8 @@
 -- What the definition of a numeral says of the octet at each place.
-use Rattle.std.proofs.Common.{◌≡◌, ℕ, suc, ◌+◌, ◌-◌, ◌*◌, ◌%◌, ◌<◌, ◌≤◌, min, Bool, true, false, T, List, [], ◌∷◌, ◌++◌, length, get_or, take, drop, sym, refl, ap, ◌∙◌, subst, ⊎_elim, append_assoc, append-nil, le_of_lt, arith, length-drop, take_all, drop-cons, drop-drop, take-add, below_more, le-ltb, lt-ltb, eq-eqb, ne_eqb}
+use Rattle.std.proofs.Common.{◌≡◌, ℕ, suc, ◌+◌, ◌-◌, ◌*◌, ◌%◌, ◌<◌, ◌≤◌, min, Bool, true, false, T, List, [], ◌∷◌, ◌++◌, length, get_or, take, drop, sym, refl, ap, ◌∙◌, subst, ⊎_elim, append_assoc, append-nil, le_of_lt, arith, length-drop, take_all, drop-cons, drop-drop, take-add, below_more, le-ltb, lt-ltb, eq-eqb, ne_eqb, Option, Some, None}
 use native.Mathlib.Nat.{min-eq_left, min-eq_right}
 use Rattle.ground.specs.declared.signs.Parts.{Parts}
 use Rattle.text.specs.declared.numeral.Digits.{Digits}
-use Rattle.text.specs.declared.numeral.Numeral.TheVariants.{Number, Nothing}
 use Rattle.text.specs.Numerals.{is_digit, number_from, digits_of, numeral_of, DigitRow, DigitsFrom}
 use Rattle.text.proofs.OutputLaws.{split}
 
@@ -34,7 +33,7 @@ module _ {b d : ℕ} (e : (d + 48) % 18446744073709551616 ≡ b) where
   pub no_digit : 9 < d → d < 18446744073709551616 → is_digit b ≡ false
   no_digit h l = ⊎_elim (λ (u : b < 48). simp (lt-ltb b 48 u)) (λ (u : 48 ≤ b). simp (le-ltb b 48 u, le-ltb b 58 (omega arith))) (split b 48)
 
-pub nothing-from : (negative : Bool) (v b : ℕ) (s : List ℕ) → is_digit b ≡ false → Nothing ≡ number_from negative v (b ∷ s)
+pub nothing-from : (negative : Bool) (v b : ℕ) (s : List ℕ) → is_digit b ≡ false → None ≡ number_from negative v (b ∷ s)
 unfolding number_from
 nothing-from negative v b s e = rw e
 
@@ -49,11 +48,6 @@ part-more s from i h l =
     let a : i + 1 - from ≡ i - from + 1 = omega arith in
     let b : from + (i - from) ≡ i = omega arith in
     rw (a, take-add (i - from) 1 (drop from s), drop-drop (i - from) from s, b, drop-cons s i 0 l)
-
-pub row-none : {s : List ℕ} {from : ℕ} → from ≤ length s → DigitRow s from 0 from
-row-none {s} {from} h =
-    let e : from - from ≡ 0 = omega arith in
-    record { after = omega arith; inside = h; each = λ k l m. absurd (omega arith); on = λ negative rest. rw e }
 
 pub row_more : {s : List ℕ} {from v i : ℕ} → DigitRow s from v i → i < length s → is_digit (get_or s i 0) ≡ true → DigitRow s from (min (10 * v + (get_or s i 0 - 48)) 18446744073709551615) (i + 1)
 row_more {s} {from} {v} {i} r h e =
@@ -73,7 +67,7 @@ some-part negative s from e h l =
     let a : e - from ≡ suc (e - from - 1) = omega arith in
     rw (a, drop-cons s from 0 (omega arith))
 
-pub no_part : (negative : Bool) (s : List ℕ) (from : ℕ) → digits_of negative (take (from - from) (drop from s)) ≡ Nothing
+pub no_part : (negative : Bool) (s : List ℕ) (from : ℕ) → digits_of negative (take (from - from) (drop from s)) ≡ None
 unfolding digits_of
 no_part negative s from =
     let a : from - from ≡ 0 = omega arith in
@@ -81,7 +75,7 @@ no_part negative s from =
 
 module _ {s : List ℕ} {from v i : ℕ} (r : DigitRow s from v i) (negative : Bool) where
   -- a part that goes on after the row, with no digit
-  pub row-stopped : (e : ℕ) → i < e → e ≤ length s → is_digit (get_or s i 0) ≡ false → digits_of negative (take (e - from) (drop from s)) ≡ Nothing
+  pub row-stopped : (e : ℕ) → i < e → e ≤ length s → is_digit (get_or s i 0) ≡ false → digits_of negative (take (e - from) (drop from s)) ≡ None
   row-stopped e h l d =
       let a : e - from ≡ i - from + suc (e - i - 1) = omega (arith, r.after) in
       let b : from + (i - from) ≡ i = omega (arith, r.after) in
@@ -90,7 +84,7 @@ module _ {s : List ℕ} {from v i : ℕ} (r : DigitRow s from v i) (negative : B
       (r.on negative (get_or s i 0 ∷ take (e - i - 1) (drop (suc i) s)) ∙ sym (nothing-from negative v (get_or s i 0) (take (e - i - 1) (drop (suc i) s)) d))
 
   -- the row alone
-  pub row-whole : from < i → v ≤ 18446744073709551615 → digits_of negative (take (i - from) (drop from s)) ≡ Number (record { negative = negative; size = v })
+  pub row-whole : from < i → v ≤ 18446744073709551615 → digits_of negative (take (i - from) (drop from s)) ≡ Some (record { negative = negative; size = v })
   unfolding number_from
   row-whole h l =
       some-part negative s from i h r.inside
@@ -106,7 +100,7 @@ all-part s from e h = take_all (e - from) (drop from s) (rw length-drop (omega a
 ends-before : {s : List ℕ} {from : ℕ} {q r : Digits} → DigitsFrom s from q → DigitsFrom s from r → q.end < r.end → ⊥
 ends-before {q = q} a b h = subst T (sym (b.row.each q.end h a.row.after) ∙ a.stops (omega (arith, b.row.inside))) tt
 
-size-of-row : {s : List ℕ} {from v i : ℕ} → v ≤ 18446744073709551615 → DigitRow s from v i → number_from false 0 (take (i - from) (drop from s) ++ []) ≡ Number (record { negative = false; size = v })
+size-of-row : {s : List ℕ} {from v i : ℕ} → v ≤ 18446744073709551615 → DigitRow s from v i → number_from false 0 (take (i - from) (drop from s) ++ []) ≡ Some (record { negative = false; size = v })
 unfolding number_from
 size-of-row h r = r.on false [] ∙ rw (min-eq_left h)
 
@@ -116,13 +110,13 @@ digits-one {s} {from} {q} {r} l m a b =
     ⊎_elim (λ (h : q.end < r.end). absurd (ends-before a b h))
     (λ (h : r.end ≤ q.end). ⊎_elim (λ (k : r.end < q.end). absurd (ends-before b a k)) (λ (k : q.end ≤ r.end). omega arith) (split r.end q.end))
     (split q.end r.end) in
-    let n : Number (record { negative = false; size = q.size }) ≡ Number (record { negative = false; size = r.size }) =
+    let n : ◌≡◌ {A = Option Parts} (Some (record { negative = false; size = q.size })) (Some (record { negative = false; size = r.size })) =
     sym (size-of-row l a.row) ∙ ap (λ (k : ℕ). number_from false 0 (take (k - from) (drop from s) ++ [])) e ∙ size-of-row m b.row in
     let p : ◌≡◌ {A = Parts} (record { negative = false; size = q.size }) (record { negative = false; size = r.size }) = cc in
     λ i. record { size = (p i).size; end = e i }
 
 -- by the first octet: none, a minus sign, another
-pub empty : (s : List ℕ) → length s ≡ 0 → Nothing ≡ numeral_of s
+pub empty : (s : List ℕ) → length s ≡ 0 → None ≡ numeral_of s
 unfolding numeral_of
 empty [] e = refl
 empty (b ∷ s) e = absurd (omega arith)

@@ -1,8 +1,7 @@
 -- What is put of a number is read back as that number.
-use Rattle.std.proofs.Common.{◌≡◌, ℕ, zero, suc, ◌+◌, ◌-◌, ◌*◌, ◌/◌, ◌%◌, ◌^◌, ◌<◌, ◌≤◌, Bool, true, false, List, [], ◌∷◌, ◌++◌, ℤ, pos, negsuc, sym, refl, ap, ◌∙◌, ⊎_elim, append_assoc, append-nil, arith, w64, SFits, le-ltb, lt-ltb, ne_eqb}
+use Rattle.std.proofs.Common.{◌≡◌, ℕ, zero, suc, ◌+◌, ◌-◌, ◌*◌, ◌/◌, ◌%◌, ◌^◌, ◌<◌, ◌≤◌, Bool, true, false, List, [], ◌∷◌, ◌++◌, ℤ, pos, negsuc, sym, refl, ap, ◌∙◌, ⊎_elim, append_assoc, append-nil, arith, w64, SFits, le-ltb, lt-ltb, ne_eqb, Some}
 use native.Mathlib.Nat.{min-eq_left}
 use Rattle.ground.specs.Signs.{parts_of}
-use Rattle.text.specs.declared.numeral.Numeral.TheVariants.{Number}
 use Rattle.text.specs.Text.{decimal, signed_decimal}
 use Rattle.text.specs.Numerals.{number_from, digits_of, numeral_of}
 use Rattle.text.proofs.OutputLaws.{split, decimal-small, decimal-more}
@@ -50,7 +49,7 @@ plain : {s : List ℕ} → Starts s → numeral_of s ≡ digits_of false s
 unfolding numeral_of
 plain (starts d rest h) = simp (ne_eqb (48 + d) 45 (λ e. omega arith))
 
-back : (negative : Bool) (n : ℕ) → n < 2 ^ 64 → digits_of negative (decimal n) ≡ Number (record { negative = negative; size = n })
+back : (negative : Bool) (n : ℕ) → n < 2 ^ 64 → digits_of negative (decimal n) ≡ Some (record { negative = negative; size = n })
 unfolding number_from
 back negative n h =
     let most : n ≤ 18446744073709551615 = omega arith in
@@ -59,7 +58,7 @@ back negative n h =
     ∙ on negative (suc n) n [] (omega arith)
     ∙ rw (min-eq_left most)
 
-pub number-back : (x : ℤ) → SFits w64 x → numeral_of (signed_decimal x) ≡ Number (parts_of x)
+pub number-back : (x : ℤ) → SFits w64 x → numeral_of (signed_decimal x) ≡ Some (parts_of x)
 unfolding signed_decimal
 number-back (pos n) f = plain (decimal-starts (suc n) n (omega arith)) ∙ back false n (omega (arith, f.sfits))
 number-back (negsuc n) f = sym (minus (45 ∷ decimal (suc n)) (omega arith) refl) ∙ back true (suc n) (omega (arith, f.sfits))

@@ -1,6 +1,7 @@
 -- What a line says, and its text.
-use Rattle.std.specs.Prelude.{ℕ, Bool, cond, List, [], ◌∷◌, ◌++◌, pos}
+use Rattle.std.specs.Prelude.{Result, Ok, Err, ℕ, Bool, cond, List, [], ◌∷◌, ◌++◌, pos}
 use Rattle.ground.specs.Answers.{number_of}
+use Rattle.ground.specs.declared.refusals.Refusal.{Refusal}
 use Rattle.ground.specs.declared.said.SaidCode.{SaidCode}
 use Rattle.ground.specs.declared.said.SaidCode.TheVariants as code
 use Rattle.ground.specs.declared.said.SaidQuantity.{SaidQuantity}
@@ -10,20 +11,20 @@ use Rattle.text.specs.declared.said.SaidLine.{SaidLine}
 use Rattle.text.specs.declared.said.SaidLine.TheVariants.{Unreadable, Refused, Missing, One, Two}
 
 -- of a code: the values, or a refusal's number
-unfoldable pub line_of_code : SaidCode → SaidLine
-line_of_code (code.Natural n) = One (record { 0 = pos n })
-line_of_code (code.Signed c) = Two c.0 (record { 0 = pos c.1 })
-line_of_code (code.Longitude c) = One (record { 0 = c.0 })
-line_of_code (code.Refused why) = Refused (number_of why)
+unfoldable pub line_of_code : Result SaidCode Refusal → SaidLine
+line_of_code (Ok (code.Natural n)) = One (record { 0 = pos n })
+line_of_code (Ok (code.Signed c)) = Two c.0 (record { 0 = pos c.1 })
+line_of_code (Ok (code.Longitude c)) = One (record { 0 = c.0 })
+line_of_code (Err why) = Refused (number_of why)
 
 -- of a quantity: the value, or a refusal's number
-unfoldable pub line_of_quantity : SaidQuantity → SaidLine
-line_of_quantity (quantity.Natural n) = One (record { 0 = pos n })
-line_of_quantity (quantity.Coordinate x) = One (record { 0 = x.0 })
-line_of_quantity (quantity.Altitude x) = One (record { 0 = x.0 })
-line_of_quantity (quantity.VerticalSpeed x) = One (record { 0 = x.0 })
-line_of_quantity quantity.Missing = Missing
-line_of_quantity (quantity.Refused why) = Refused (number_of why)
+unfoldable pub line_of_quantity : Result SaidQuantity Refusal → SaidLine
+line_of_quantity (Ok (quantity.Natural n)) = One (record { 0 = pos n })
+line_of_quantity (Ok (quantity.Coordinate x)) = One (record { 0 = x.0 })
+line_of_quantity (Ok (quantity.Altitude x)) = One (record { 0 = x.0 })
+line_of_quantity (Ok (quantity.VerticalSpeed x)) = One (record { 0 = x.0 })
+line_of_quantity (Ok quantity.Missing) = Missing
+line_of_quantity (Err why) = Refused (number_of why)
 
 -- "0 1 " or "0 0 "
 unfoldable pub sign_text : Bool → List ℕ

@@ -1,9 +1,8 @@
 -- The fields of a line, and what a field says.
-use Rattle.std.specs.Prelude.{◌≡◌, ℕ, ◌^◌, ◌<◌, ◌≤◌, cond, List, [], ◌∷◌, ◌++◌, length, drop, ℤ, pos, ◌==◌, slice_index_or}
-use Rattle.ground.specs.declared.quantity.Confidence.{Confidence}
-use Rattle.ground.specs.declared.quantity.Confidence.TheVariants as confident
+use Rattle.std.specs.Prelude.{◌≡◌, ℕ, ◌^◌, ◌<◌, ◌≤◌, cond, List, [], ◌∷◌, ◌++◌, length, drop, ℤ, pos, ◌==◌, slice_index_or, Option, Some, None}
 use Rattle.text.specs.Numerals.{numeral_of}
 use Rattle.text.specs.Widths.{Means, FitsSigned}
+use Rattle.ground.specs.declared.quantity.PerCent.{PerCent}
 
 -- the fields of a line whose first field starts with f: a field ends at each space (32)
 unfoldable pub fields_from : List ℕ → List ℕ → List (List ℕ)
@@ -41,6 +40,6 @@ pub record Starts (line : List ℕ) (number r : ℕ) : Type 0 where
   pub rest : fields_of (drop r line) ≡ drop number (fields_of line)
 
 -- per cent, or none
-abbrev pub SaysConfidence : List ℕ → Confidence → Type 0
-SaysConfidence f (confident.PerCent n) = SaysUnsigned f n
-SaysConfidence f confident.Missing = IsAbsent f
+abbrev pub SaysConfidence : List ℕ → Option PerCent → Type 0
+SaysConfidence f (Some p) = SaysUnsigned f p.0
+SaysConfidence f None = IsAbsent f

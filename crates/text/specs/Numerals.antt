@@ -1,26 +1,25 @@
 -- The number that a field writes.
-use Rattle.std.specs.Prelude.{◌≡◌, ℕ, ◌+◌, ◌-◌, ◌*◌, ◌<◌, ◌≤◌, min, Bool, true, false, cond, List, [], ◌∷◌, ◌++◌, length, ◌==◌, nat_lt, slice_index, slice_range}
+use Rattle.std.specs.Prelude.{◌≡◌, ℕ, ◌+◌, ◌-◌, ◌*◌, ◌<◌, ◌≤◌, min, Bool, true, false, cond, List, [], ◌∷◌, ◌++◌, length, ◌==◌, nat_lt, slice_index, slice_range, Option, Some, None}
 use Rattle.text.specs.declared.numeral.Digits.{Digits}
-use Rattle.text.specs.declared.numeral.Numeral.{Numeral}
-use Rattle.text.specs.declared.numeral.Numeral.TheVariants.{Number, Nothing}
+use Rattle.ground.specs.declared.signs.Parts.{Parts}
 
 -- 48 to 57
 abbrev pub is_digit : ℕ → Bool
 is_digit b = cond (nat_lt b 48) false (nat_lt b 58)
 
 -- digits after the number v, and their sign. The size is what 64 bits hold of it, at most their largest number.
-unfoldable pub number_from : Bool → ℕ → List ℕ → Numeral
-number_from negative v [] = Number (record { negative = negative; size = min v 18446744073709551615 })
-number_from negative v (b ∷ s) = cond (is_digit b) (number_from negative (10 * v + (b - 48)) s) Nothing
+unfoldable pub number_from : Bool → ℕ → List ℕ → Option Parts
+number_from negative v [] = Some (record { negative = negative; size = min v 18446744073709551615 })
+number_from negative v (b ∷ s) = cond (is_digit b) (number_from negative (10 * v + (b - 48)) s) None
 
 -- one digit or more, and nothing else
-unfoldable pub digits_of : Bool → List ℕ → Numeral
-digits_of negative [] = Nothing
+unfoldable pub digits_of : Bool → List ℕ → Option Parts
+digits_of negative [] = None
 digits_of negative (b ∷ s) = number_from negative 0 (b ∷ s)
 
 -- a minus sign (45) or none, and digits
-unfoldable pub numeral_of : List ℕ → Numeral
-numeral_of [] = Nothing
+unfoldable pub numeral_of : List ℕ → Option Parts
+numeral_of [] = None
 numeral_of (b ∷ s) = cond (b == 45) (digits_of true s) (digits_of false (b ∷ s))
 
 -- ---- digits in a row

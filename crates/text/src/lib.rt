@@ -13,11 +13,9 @@ ghost use Rattle.text.specs.Text.{Puts, decimal, pair, four, eight, lanes, pairs
 pub use answer_lines::{put_end, put_line};
 use ground::Whole;
 pub use marks::{field_end, line_end};
-pub use numeral::{Numeral, digits_from, number_in};
+pub use numeral::{digits_from, number_in};
 pub use said::{SaidLine, line_of_code, line_of_quantity};
-pub use widths::{
-    Signed32, Signed64, Size, Unsigned32, signed_32, signed_64, size_of, unsigned_32,
-};
+pub use widths::{Size, signed_32, signed_64, size_of, unsigned_32};
 
 // Puts one octet at `at`, and answers the place after it.
 pub fn put_byte(out: &mut [u8], at: usize, b: u8) -> usize
@@ -189,12 +187,9 @@ pub fn put_bytes(out: &mut [u8], at: usize, src: &[u8]) -> usize
     requires { at + length src.now ≤ length out.old }
     ensures { Puts out.old at src.now out.new result }
 {
-    let mut i = 0;
-    while i < src.len() {
-        out[at + i] = src[i];
-        i += 1;
-    }
-    at + i
+    let end = at + src.len();
+    out[at..end].copy_from_slice(src);
+    end
 }
 
 // Puts octets as digits, and answers the place after them.
@@ -203,10 +198,8 @@ pub fn put_octets(out: &mut [u8], at: usize, src: &[u8]) -> usize
     ensures { Puts out.old at (octets_text src.now) out.new result }
 {
     let mut next = at;
-    let mut i = 0;
-    while i < src.len() {
-        next = put_octet(out, next, src[i]);
-        i += 1;
+    for octet in src {
+        next = put_octet(out, next, *octet);
     }
     next
 }

@@ -4,12 +4,6 @@ ghost use Rattle.text.specs.Numerals.{digits_of, numeral_of, DigitsFrom};
 
 use ground::Parts;
 
-#[derive(Clone, Copy)]
-pub enum Numeral {
-    Number(Parts),
-    Nothing,
-}
-
 // Digits in a row: the number that they write, at most the largest of 64 bits, and the place after them.
 #[derive(Clone, Copy)]
 pub struct Digits {
@@ -18,11 +12,11 @@ pub struct Digits {
 }
 
 // The number that the whole field writes, or nothing. A size that 64 bits can't hold is their largest.
-pub fn number_in(field: &[u8]) -> Numeral
+pub fn number_in(field: &[u8]) -> Option<Parts>
     ensures { result ≡ numeral_of field.now }
 {
     if field.len() == 0 {
-        return Numeral::Nothing;
+        return None;
     }
     if field[0] == 45 {
         return digits_in(field, 1, true);
@@ -31,19 +25,19 @@ pub fn number_in(field: &[u8]) -> Numeral
 }
 
 // The number that the digits from `from` on write, with its sign.
-fn digits_in(field: &[u8], from: usize, negative: bool) -> Numeral
+fn digits_in(field: &[u8], from: usize, negative: bool) -> Option<Parts>
     requires { from ≤ length field.now }
     ensures { result ≡ digits_of negative (drop from field.now) }
 {
     let digits = digits_from(field, from);
     if digits.end < field.len() {
-        return Numeral::Nothing;
+        return None;
     }
     if digits.end == from {
-        return Numeral::Nothing;
+        return None;
     }
     let size = digits.size;
-    Numeral::Number(Parts { negative, size })
+    Some(Parts { negative, size })
 }
 
 // The digits that stand in a row from `from` on, which may be none.

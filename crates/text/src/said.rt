@@ -2,7 +2,7 @@
 ghost use Rattle.std.specs.Prelude.{◌≡◌};
 ghost use Rattle.text.specs.AnswerLines.{line_of_code, line_of_quantity};
 
-use ground::{SaidCode, SaidQuantity, Whole};
+use ground::{Refusal, SaidCode, SaidQuantity, Whole};
 
 #[derive(Clone, Copy)]
 pub enum SaidLine {
@@ -16,27 +16,33 @@ pub enum SaidLine {
 }
 
 // The line of what a coder says.
-pub fn line_of_code(said: SaidCode) -> SaidLine
+#[tactic(auto, unfolding(crate::specs::AnswerLines::line_of_code))]
+pub fn line_of_code(said: Result<SaidCode, Refusal>) -> SaidLine
     ensures { result ≡ line_of_code said }
 {
     match said {
-        SaidCode::Natural(n) => SaidLine::One(Whole(n as i64)),
-        SaidCode::Signed(code) => SaidLine::Two(code.0, Whole(code.1 as i64)),
-        SaidCode::Longitude(code) => SaidLine::One(Whole(code.0 as i64)),
-        SaidCode::Refused(why) => SaidLine::Refused(ground::refusal_number(why)),
+        Ok(code) => match code {
+            SaidCode::Natural(n) => SaidLine::One(Whole(n as i64)),
+            SaidCode::Signed(code) => SaidLine::Two(code.0, Whole(code.1 as i64)),
+            SaidCode::Longitude(code) => SaidLine::One(Whole(code.0 as i64)),
+        },
+        Err(why) => SaidLine::Refused(u64::from(why)),
     }
 }
 
 // The line of what a reporter says.
-pub fn line_of_quantity(said: SaidQuantity) -> SaidLine
+#[tactic(auto, unfolding(crate::specs::AnswerLines::line_of_quantity))]
+pub fn line_of_quantity(said: Result<SaidQuantity, Refusal>) -> SaidLine
     ensures { result ≡ line_of_quantity said }
 {
     match said {
-        SaidQuantity::Natural(n) => SaidLine::One(Whole(n as i64)),
-        SaidQuantity::Coordinate(x) => SaidLine::One(Whole(x.0)),
-        SaidQuantity::Altitude(x) => SaidLine::One(Whole(x.0 as i64)),
-        SaidQuantity::VerticalSpeed(x) => SaidLine::One(Whole(x.0 as i64)),
-        SaidQuantity::Missing => SaidLine::Missing,
-        SaidQuantity::Refused(why) => SaidLine::Refused(ground::refusal_number(why)),
+        Ok(quantity) => match quantity {
+            SaidQuantity::Natural(n) => SaidLine::One(Whole(n as i64)),
+            SaidQuantity::Coordinate(x) => SaidLine::One(Whole(x.0)),
+            SaidQuantity::Altitude(x) => SaidLine::One(Whole(x.0 as i64)),
+            SaidQuantity::VerticalSpeed(x) => SaidLine::One(Whole(x.0 as i64)),
+            SaidQuantity::Missing => SaidLine::Missing,
+        },
+        Err(why) => SaidLine::Refused(u64::from(why)),
     }
 }

@@ -1,25 +1,7 @@
 // A numeral as a number of some width, where minus zero is zero.
 ghost use Rattle.text.specs.Widths.{AsSigned64, AsSigned32, AsUnsigned32, AsSize};
 
-use crate::numeral::Numeral;
-
-#[derive(Clone, Copy)]
-pub enum Signed64 {
-    Number(i64),
-    Outside,
-}
-
-#[derive(Clone, Copy)]
-pub enum Signed32 {
-    Number(i32),
-    Outside,
-}
-
-#[derive(Clone, Copy)]
-pub enum Unsigned32 {
-    Number(u32),
-    Outside,
-}
+use ground::Parts;
 
 // The size of a code that has no sign, at most the largest that 64 bits hold.
 #[derive(Clone, Copy)]
@@ -29,82 +11,36 @@ pub enum Size {
     Nothing,
 }
 
-// The complement of a size less 1 is the number below zero of that size, for the least number too.
-pub fn signed_64(n: Numeral) -> Signed64
+pub fn signed_64(n: Option<Parts>) -> Option<i64>
     ensures { AsSigned64 n result }
 {
-    let Numeral::Number(p) = n else {
-        return Signed64::Outside;
-    };
-    let size = p.size;
-    if size == 0 {
-        return Signed64::Number(0);
-    }
+    let p = n?;
     if p.negative {
-        if 9223372036854775808 < size {
-            return Signed64::Outside;
-        }
-        return Signed64::Number(!((size - 1) as i64));
+        return 0i64.checked_sub_unsigned(p.size);
     }
-    if 9223372036854775807 < size {
-        return Signed64::Outside;
-    }
-    Signed64::Number(size as i64)
+    0i64.checked_add_unsigned(p.size)
 }
 
-pub fn signed_32(n: Numeral) -> Signed32
+pub fn signed_32(n: Option<Parts>) -> Option<i32>
     ensures { AsSigned32 n result }
 {
-    let Numeral::Number(p) = n else {
-        return Signed32::Outside;
-    };
-    let size = p.size;
-    if size == 0 {
-        return Signed32::Number(0);
-    }
-    if p.negative {
-        if 2147483648 < size {
-            return Signed32::Outside;
-        }
-        return Signed32::Number(!((size - 1) as i32));
-    }
-    if 2147483647 < size {
-        return Signed32::Outside;
-    }
-    Signed32::Number(size as i32)
+    i32::try_from(signed_64(n)?).ok()
 }
 
-pub fn unsigned_32(n: Numeral) -> Unsigned32
+pub fn unsigned_32(n: Option<Parts>) -> Option<u32>
     ensures { AsUnsigned32 n result }
 {
-    let Numeral::Number(p) = n else {
-        return Unsigned32::Outside;
-    };
-    let size = p.size;
-    if size == 0 {
-        return Unsigned32::Number(0);
-    }
-    if p.negative {
-        return Unsigned32::Outside;
-    }
-    if 4294967295 < size {
-        return Unsigned32::Outside;
-    }
-    Unsigned32::Number(size as u32)
+    u32::try_from(signed_64(n)?).ok()
 }
 
-pub fn size_of(n: Numeral) -> Size
+pub fn size_of(n: Option<Parts>) -> Size
     ensures { AsSize n result }
 {
-    let Numeral::Number(p) = n else {
+    let Some(p) = n else {
         return Size::Nothing;
     };
-    let size = p.size;
-    if size == 0 {
-        return Size::Code(0);
-    }
-    if p.negative {
+    if p.negative && p.size != 0 {
         return Size::Below;
     }
-    Size::Code(size)
+    Size::Code(p.size)
 }

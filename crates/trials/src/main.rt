@@ -16,23 +16,20 @@ use streaming::Input;
 // Prints an answer for each line, and answers how many there were.
 fn take_lines(rt: &HostRuntime, block: &mut [u8; 65536]) -> u64 {
     let mut input = streaming::no_input();
-    let mut lines: u64 = 0;
-    while lines < u64::MAX {
+    for lines in 0..u64::MAX {
         input = streaming::read_line(rt, block, input);
         if !input.ready {
             return lines;
         }
-        lines += 1;
-        io::print_decimal(1, lines);
+        io::print_decimal(1, lines + 1);
         take_line(block, input);
         io::write_all(1, b"\n");
     }
-    lines
+    u64::MAX
 }
 
-fn take_line(block: &[u8], input: Input)
-    requires block_len { length block.now ≡ 65536 }
-    requires sound_input { SoundInput input }
+fn take_line(block: &[u8; 65536], input: Input)
+    requires { SoundInput input }
 {
     if input.long {
         return;
@@ -47,8 +44,9 @@ fn take_case(line: &[u8]) {
     if end == line.len() {
         return;
     }
-    let from = end + 1;
-    calls::call(verb::named(&line[0..end]), given::numbers_in(&line[from..]));
+    if let Some(verb) = verb::named(&line[..end]) {
+        calls::call(verb, given::numbers_in(&line[end + 1..]));
+    }
 }
 
 fn main(rt: HostRuntime) {

@@ -2,26 +2,20 @@
 use ground::Whole;
 
 pub fn octets(octets: &[u8]) {
-    let mut i: usize = 0;
-    while i < octets.len() {
-        octet(octets[i]);
-        i += 1;
+    for n in octets {
+        octet(*n);
     }
 }
 
 pub fn codes(codes: &[u32]) {
-    let mut i: usize = 0;
-    while i < codes.len() {
-        code(codes[i]);
-        i += 1;
+    for n in codes {
+        code(*n);
     }
 }
 
 pub fn quantities(quantities: &[i64]) {
-    let mut i: usize = 0;
-    while i < quantities.len() {
-        whole(Whole(quantities[i]));
-        i += 1;
+    for n in quantities {
+        whole(Whole(*n));
     }
 }
 

@@ -1,58 +1,47 @@
-// The calls of the library, by their names in a line.
+// The calls of the library, by what they fill, and their names in a line.
 #[derive(Clone, Copy)]
 pub enum Verb {
+    FillCodes(CodesCall),
+    FillOctets(OctetsCall),
+    FillQuantities(QuantitiesCall),
+}
+
+#[derive(Clone, Copy)]
+pub enum CodesCall {
     ReadShape,
     ReadVelocity,
     CodeShape,
     CodeVelocity,
     Code,
+}
+
+#[derive(Clone, Copy)]
+pub enum OctetsCall {
     WriteShape,
     WriteVelocity,
     Choose,
+}
+
+#[derive(Clone, Copy)]
+pub enum QuantitiesCall {
     ReportShape,
     ReportVelocity,
     Report,
-    Nothing,
 }
 
-pub fn named(word: &[u8]) -> Verb {
-    if check::same(word, b"read-shape") {
-        return Verb::ReadShape;
+pub fn named(word: &[u8]) -> Option<Verb> {
+    match word {
+        b"read-shape" => Some(Verb::FillCodes(CodesCall::ReadShape)),
+        b"read-velocity" => Some(Verb::FillCodes(CodesCall::ReadVelocity)),
+        b"code-shape" => Some(Verb::FillCodes(CodesCall::CodeShape)),
+        b"code-velocity" => Some(Verb::FillCodes(CodesCall::CodeVelocity)),
+        b"code" => Some(Verb::FillCodes(CodesCall::Code)),
+        b"write-shape" => Some(Verb::FillOctets(OctetsCall::WriteShape)),
+        b"write-velocity" => Some(Verb::FillOctets(OctetsCall::WriteVelocity)),
+        b"choose" => Some(Verb::FillOctets(OctetsCall::Choose)),
+        b"report-shape" => Some(Verb::FillQuantities(QuantitiesCall::ReportShape)),
+        b"report-velocity" => Some(Verb::FillQuantities(QuantitiesCall::ReportVelocity)),
+        b"report" => Some(Verb::FillQuantities(QuantitiesCall::Report)),
+        _ => None,
     }
-    if check::same(word, b"read-velocity") {
-        return Verb::ReadVelocity;
-    }
-    if check::same(word, b"code-shape") {
-        return Verb::CodeShape;
-    }
-    if check::same(word, b"code-velocity") {
-        return Verb::CodeVelocity;
-    }
-    if check::same(word, b"code") {
-        return Verb::Code;
-    }
-    named_filling(word)
-}
-
-// Those that fill octets or quantities.
-fn named_filling(word: &[u8]) -> Verb {
-    if check::same(word, b"write-shape") {
-        return Verb::WriteShape;
-    }
-    if check::same(word, b"write-velocity") {
-        return Verb::WriteVelocity;
-    }
-    if check::same(word, b"choose") {
-        return Verb::Choose;
-    }
-    if check::same(word, b"report-shape") {
-        return Verb::ReportShape;
-    }
-    if check::same(word, b"report-velocity") {
-        return Verb::ReportVelocity;
-    }
-    if check::same(word, b"report") {
-        return Verb::Report;
-    }
-    Verb::Nothing
 }

@@ -3,4 +3,3 @@ pub mod FirstOctet
 pub mod OneAnswer
 pub mod ReadLaws
 pub mod UnusedLaws
-pub mod WriteLaws

@@ -1,21 +1,11 @@
 -- What the parts of the reader promise, in the words of the layout table.
 use Rattle.std.specs.Prelude.{◌≡◌, ℕ}
 use Rattle.ground.specs.Answers.{Unless, Else0}
-use Rattle.ground.specs.declared.refusals.Refusal.{Refusal}
-use Rattle.ground.specs.declared.refusals.Outcome.TheVariants.{Refused}
 use Rattle.layout.specs.declared.velocity.VelocityKind.{VelocityKind}
-use Rattle.layout.specs.declared.velocity.VelocityKind.TheVariants.{Nothing}
-use Rattle.layout.specs.declared.velocity.VelocityRead.{VelocityRead}
 use Rattle.layout.specs.Layout.{velocity_rows}
 use Rattle.layout.specs.Rows.{length_of}
 use Rattle.layout.specs.Demands.{TypeKnown}
-use Rattle.layout.specs.Velocities.{blank_velocity}
 
 -- 2 and 3, of a kind and a number of octets
 abbrev pub VelocityFormAnswer : VelocityKind → ℕ → ℕ → Type 0
 VelocityFormAnswer k octets = Unless (TypeKnown (velocity_rows k)) 2 (Unless (octets ≡ length_of (velocity_rows k)) 3 Else0)
-
--- a refusal hands back the record of no velocity
-pub record VelocityReadingRefused (why : Refusal) (r : VelocityRead) : Type 0 where
-  pub outcome : r.outcome ≡ Refused why
-  pub velocity : r.velocity ≡ blank_velocity Nothing

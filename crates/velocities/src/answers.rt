@@ -1,6 +1,6 @@
 // Whether octets have the form of a message of a kind, and whether a record is one that can be written.
-ghost use Rattle.std.specs.Prelude.{◌≡◌, ◌<◌};
-ghost use Rattle.ground.specs.Answers.{outcome_number, handed, Decides};
+ghost use Rattle.std.specs.Prelude.{◌<◌};
+ghost use Rattle.ground.specs.Answers.{outcome_number, Decides};
 ghost use Rattle.layout.specs.Layout.{velocity_rows};
 ghost use Rattle.layout.specs.Rows.{length_of};
 ghost use Rattle.layout.specs.Demands.{TypeKnown};
@@ -9,52 +9,42 @@ ghost use Rattle.velocity_octets.specs.VelocityOctets.{velocity_rows_of, Velocit
 ghost use Rattle.velocities.specs.Writing.{VelocityAnswer, AreZero};
 
 use crate::kinds;
-use ground::{Outcome, Refusal};
+use ground::Refusal;
 use layout::{Velocity, VelocityKind};
 
 // 2 and 3, of so many octets.
-pub fn of_message(length: usize, kind: VelocityKind) -> Outcome
+pub fn of_message(length: usize, kind: VelocityKind) -> Result<(), Refusal>
     ensures { VelocityFormAnswer kind length (outcome_number result) }
 {
     let whole = kinds::length_of(kind);
     if whole == 0 {
-        return Outcome::Refused(Refusal::UnknownType);
+        return Err(Refusal::UnknownType);
     }
     if length != whole {
-        return Outcome::Refused(Refusal::WrongLength);
+        return Err(Refusal::WrongLength);
     }
-    Outcome::Done
+    Ok(())
 }
 
 // 2, 5, 7 and 10, of so much room.
-pub fn of_record(velocity: Velocity, room: usize) -> Outcome
+pub fn of_record(velocity: Velocity, room: usize) -> Result<(), Refusal>
     ensures { VelocityAnswer velocity room (outcome_number result) }
 {
     let kind = velocity.kind;
     let length = kinds::length_of(kind);
     if length == 0 {
-        return Outcome::Refused(Refusal::UnknownType);
+        return Err(Refusal::UnknownType);
     }
     if 360 <= velocity.bearing.0 {
-        return Outcome::Refused(Refusal::AngleCode);
+        return Err(Refusal::AngleCode);
     }
     if !in_fields(velocity) {
-        return Outcome::Refused(Refusal::OutOfRange);
+        return Err(Refusal::OutOfRange);
     }
     if room < length {
-        return Outcome::Refused(Refusal::BufferTooShort);
+        return Err(Refusal::BufferTooShort);
     }
-    Outcome::Done
-}
-
-// How many octets are written: none on a refusal.
-pub fn written(outcome: Outcome, kind: VelocityKind) -> usize
-    ensures { result ≡ handed outcome (length_of (velocity_rows kind)) 0 }
-{
-    match outcome {
-        Outcome::Done => kinds::length_of(kind),
-        Outcome::Refused(_) => 0,
-    }
+    Ok(())
 }
 
 // Whether what the kind has no field for is zero. Its own fields hold every code of their types, and every bearing below 360.
@@ -80,17 +70,5 @@ fn in_fields(velocity: Velocity) -> bool
 fn are_zero(down: bool, vertical: u8, uncertainty: u8, vertical_uncertainty: u8) -> bool
     ensures { Decides result (AreZero down vertical uncertainty vertical_uncertainty) }
 {
-    if down {
-        return false;
-    }
-    if vertical != 0 {
-        return false;
-    }
-    if uncertainty != 0 {
-        return false;
-    }
-    if vertical_uncertainty != 0 {
-        return false;
-    }
-    true
+    !down && vertical == 0 && uncertainty == 0 && vertical_uncertainty == 0
 }

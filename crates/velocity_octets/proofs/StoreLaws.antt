@@ -1,6 +1,6 @@
 -- The octets that each kind stores are its message, in front of what was there.
 use Prim.Native.Nat.{ℕ, ◌+◌, ◌<◌, ◌≤◌}
-use mathlib.Core.Path.{◌≡◌, refl, ap, sym, subst, ◌∙◌}
+use mathlib.Core.Path.{◌≡◌, ap, sym, subst, ◌∙◌}
 use mathlib.Core.List.{List, [], ◌∷◌, ◌++◌}
 use native.Mathlib.Omega.{arith}
 use lib.ListN.{length, drop}
@@ -14,7 +14,7 @@ use Rattle.layout.specs.Rows.{length_of, message}
 use Rattle.layout.specs.Demands.{InFields}
 use Rattle.layout.specs.Velocities.{velocity_value_of}
 use Rattle.layout.proofs.TidyLaws.{message-length}
-use Rattle.layout.proofs.VelocityMessageLaws.{horizontal-message, vertical-message, uncertain-message, all-message}
+use Rattle.layout.proofs.VelocityMessageLaws.{horizontal-message, uncertain-message, all-message}
 use Rattle.velocity_octets.specs.VelocityOctets.{VelocityStorable, Stored, first_number, front}
 
 -- a message that is stored from the first octet on
@@ -49,20 +49,11 @@ module _ (x : Velocity) (before after : List ℕ) (can : VelocityStorable x (len
       subst (λ (j : VelocityKind). after ≡ message (velocity_rows j) (velocity_value_of x) ++ drop (length_of (velocity_rows j)) before) (sym e)
       (in-front (velocity_rows k) (velocity_value_of x) before after m q (own_room x _ can k e) h)
 
-  pub nothing_stored : x.kind ≡ Nothing → after ≡ before → Stored x before after
-  nothing_stored e h = own-stored Nothing [] e refl h
-
   module _ (n first : ℕ) (t : n ≡ velocity_type_of x.kind) (f : first ≡ first_number n x.vertical_speed.0 x.bearing.0) where
     pub horizontal-stored : x.kind ≡ Horizontal → after ≡ sets before 0 (front first x.horizontal_speed.0) → Stored x before after
     horizontal-stored e h =
         let v = own-fields x _ can Horizontal e in
         own-stored Horizontal _ e (horizontal-message (velocity_value_of x) (v.each layout.horizontal_speed) first (omega (arith, v.each layout.down))) h
-
-    pub vertical-stored : x.kind ≡ HorizontalVertical
-        → after ≡ sets before 0 (front first x.horizontal_speed.0 ++ (x.vertical_speed.1 ∷ [])) → Stored x before after
-    vertical-stored e h =
-        let v = own-fields x _ can HorizontalVertical e in
-        own-stored HorizontalVertical _ e (vertical-message (velocity_value_of x) (v.each layout.horizontal_speed) first (omega arith) (v.each layout.vertical_speed)) h
 
     pub uncertain-stored : x.kind ≡ HorizontalUncertain
         → after ≡ sets before 0 (front first x.horizontal_speed.0 ++ (x.uncertainty.0 ∷ [])) → Stored x before after

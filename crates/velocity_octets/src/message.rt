@@ -1,7 +1,6 @@
 // The message of a record that can be written.
 ghost use Rattle.std.specs.Prelude.{◌≡◌, [], ◌∷◌, ◌++◌, ◌<◌, ◌≤◌, length};
 ghost use Rattle.std.proofs.lemmas.List.Edits.{sets};
-ghost use Rattle.octets.specs.Codes.{bit_of};
 ghost use Rattle.velocity_octets.specs.VelocityOctets.{VelocityStorable, Stored, first_number, front};
 
 use layout::{Velocity, VelocityKind};
@@ -12,7 +11,7 @@ pub fn store_velocity(out: &mut [u8], velocity: Velocity)
     ensures { Stored velocity out.old out.new }
 {
     let kind = velocity.kind;
-    let type_number = layout::velocity_type_number(kind);
+    let type_number = u8::from(kind);
     let first = first_word(
         type_number as u16,
         velocity.vertical_speed.0,
@@ -47,19 +46,9 @@ fn first_word(type_number: u16, down: bool, bearing: u16) -> u16
     requires bearing_bound { bearing < 512 }
     ensures { result ≡ first_number type_number down bearing }
 {
-    let d = bit(down);
     let high = bearing / 256;
-    let first = 16 * type_number + 2 * d + high;
+    let first = 16 * type_number + 2 * u16::from(down) + high;
     256 * first + bearing % 256
-}
-
-fn bit(sign: bool) -> u16
-    ensures { result ≡ bit_of sign }
-{
-    if sign {
-        return 1;
-    }
-    0
 }
 
 // Stores the four octets of two numbers, from the first on; then with one octet more; then with two more.

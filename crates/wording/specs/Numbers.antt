@@ -1,8 +1,6 @@
 -- A NUMBER AFTER A SPACE, A QUANTITY, AND THE ROWS OF A RECORD IN THEIR ORDER, as text: document 01, "The lister" (polygon: count, then
 -- pairs; velocity: bearing first; missing_text: `-`).
-use Rattle.std.specs.Prelude.{List, [], ◌∷◌, ◌++◌, ℕ, ℤ, pos}
-use Rattle.ground.specs.declared.quantity.UncertaintySpeed.TheVariants as uncertain
-use Rattle.ground.specs.declared.quantity.Confidence.TheVariants as confident
+use Rattle.std.specs.Prelude.{List, [], ◌∷◌, ◌++◌, ℕ, ℤ, pos, Some, None}
 use Rattle.text.specs.Text.{decimal, signed_decimal}
 use Rattle.fields.specs.Fields.{CodeOf, QuantityOf}
 use Rattle.fields.specs.Fields as field
@@ -33,10 +31,10 @@ quantity_text field.orientation x = number_text (pos x.0)
 quantity_text field.bearing x = number_text (pos x.0)
 quantity_text field.horizontal_speed x = number_text (pos x.0)
 quantity_text field.vertical_speed x = number_text x.0
-quantity_text field.uncertainty_speed (uncertain.Speed s) = number_text (pos s.0)
-quantity_text field.uncertainty_speed uncertain.Missing = missing_text
-quantity_text field.confidence (confident.PerCent p) = number_text (pos p)
-quantity_text field.confidence confident.Missing = missing_text
+quantity_text field.uncertainty_speed (Some s) = number_text (pos s.0)
+quantity_text field.uncertainty_speed None = missing_text
+quantity_text field.confidence (Some p) = number_text (pos p.0)
+quantity_text field.confidence None = missing_text
 
 -- the quantity that is reported at a place
 abbrev pub place_text : PlaceCodes → Place → List ℕ

@@ -10,8 +10,7 @@ ghost use Rattle.wording.specs.ShapeTexts.{shape_text, position_text, axes_text,
 
 use crate::numbers;
 use ground::{
-    Confidence, ConfidenceCode, LatitudeCode, LongitudeCode, OrientationCode, UncertaintyCode,
-    Whole,
+    ConfidenceCode, LatitudeCode, LongitudeCode, OrientationCode, UncertaintyCode, Whole,
 };
 use layout::{Kind, Shape};
 
@@ -21,7 +20,7 @@ pub fn put_shape(out: &mut [u8], at: usize, shape: Shape) -> usize
     ensures { PutsWithin 680 out.old at (shape_text shape) out.new result }
 {
     let kind = shape.kind;
-    let a = numbers::put_head(out, at, layout::type_number(kind));
+    let a = numbers::put_head(out, at, u8::from(kind));
     if let Kind::Polygon = kind {
         let latitudes = shape.latitudes;
         let longitudes = shape.longitudes;
@@ -64,12 +63,10 @@ fn put_points(
 {
     let end = n as usize;
     let mut next = at;
-    let mut i = 0;
-    while i < end {
+    for i in 0..end {
         let latitude = latitudes[i];
         let longitude = longitudes[i];
         next = put_position(out, next, latitude, longitude);
-        i += 1;
     }
     next
 }
@@ -178,7 +175,7 @@ fn put_confidence(out: &mut [u8], at: usize, code: ConfidenceCode) -> usize
     ensures { PutsWithin 21 out.old at (code_text field.confidence code) out.new result }
 {
     match field_reports::confidence(code) {
-        Confidence::PerCent(p) => numbers::put_natural(out, at, p),
-        Confidence::Missing => text::put_bytes(out, at, b" -"),
+        Some(p) => numbers::put_natural(out, at, p.0),
+        None => text::put_bytes(out, at, b" -"),
     }
 }

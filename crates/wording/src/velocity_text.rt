@@ -7,7 +7,7 @@ ghost use Rattle.wording.specs.Numbers.{code_text};
 ghost use Rattle.wording.specs.VelocityTexts.{velocity_text, motion_rest};
 
 use crate::numbers;
-use ground::{UncertaintySpeed, UncertaintySpeedCode, Whole};
+use ground::{UncertaintySpeedCode, Whole};
 use layout::{Velocity, VelocityKind};
 
 pub fn put_velocity(out: &mut [u8], at: usize, velocity: Velocity) -> usize
@@ -16,7 +16,7 @@ pub fn put_velocity(out: &mut [u8], at: usize, velocity: Velocity) -> usize
     ensures { PutsWithin 680 out.old at (velocity_text velocity) out.new result }
 {
     let kind = velocity.kind;
-    let a = numbers::put_head(out, at, layout::velocity_type_number(kind));
+    let a = numbers::put_head(out, at, u8::from(kind));
     let b = numbers::put_natural(out, a, field_reports::bearing(velocity.bearing).0);
     let c = numbers::put_natural(
         out,
@@ -52,7 +52,7 @@ fn put_uncertainty(out: &mut [u8], at: usize, code: UncertaintySpeedCode) -> usi
     ensures { PutsWithin 21 out.old at (code_text field.uncertainty_speed code) out.new result }
 {
     match speeds::reported_uncertainty_speed(code) {
-        UncertaintySpeed::Speed(speed) => numbers::put_natural(out, at, speed.0),
-        UncertaintySpeed::Missing => text::put_bytes(out, at, b" -"),
+        Some(speed) => numbers::put_natural(out, at, speed.0),
+        None => text::put_bytes(out, at, b" -"),
     }
 }

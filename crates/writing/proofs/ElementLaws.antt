@@ -1,4 +1,5 @@
 -- The elements of a record say the record, where it is of some kind.
+use Rattle.std.specs.Prelude.{Result}
 use Prim.Native.Nat.{ℕ, zero, suc, ◌+◌, ◌-◌, ◌*◌, ◌≤◌, ◌<◌}
 use mathlib.Core.Path.{◌≡◌, refl, sym, ap, subst, ◌∙◌}
 use mathlib.Core.Bool.{Bool, true, false}
@@ -15,18 +16,17 @@ use denote.Array.{each}
 use denote.Laws.{Is}
 use denote.Shadow.{shadow}
 use denote.Struct.Declared.{row}
-use Rattle.ground.specs.Answers.{unmet}
 use Rattle.ground.specs.declared.code.LatitudeCode.{LatitudeCode}
 use Rattle.ground.specs.declared.code.LongitudeCode.{LongitudeCode}
 use Rattle.ground.specs.contracts.code.LongitudeCode.{the_row}
+use Rattle.ground.specs.declared.refusals.Refusal.{Refusal}
 use Rattle.octets.specs.Codes.{bit_of, complement}
-use Rattle.layout.specs.declared.Written.{Written}
 use Rattle.layout.specs.declared.shape.Kind.{Kind}
 use Rattle.layout.specs.declared.shape.Kind.TheVariants.{Nothing, Point, Circle, Ellipse, Polygon, AltitudePoint, AltitudeEllipsoid, Arc}
 use Rattle.layout.specs.declared.shape.Shape.{Shape}
 use Rattle.layout.specs.Layout.{MessageField, Row, shape_rows, type_of}
 use Rattle.layout.specs.Layout as layout
-use Rattle.layout.specs.Demands.{TypeKnown, WriteAnswer, Writes}
+use Rattle.layout.specs.Demands.{Writes}
 use Rattle.layout.specs.Shapes.{kind_of, value_of, rows_of, zero_latitude, zero_longitude, WritesShape}
 use Rattle.layout.specs.contracts.shape.Shape.{the_type}
 use Rattle.code_arrays.specs.CodeNumbers.{element_at, from_bits, bits_of}
@@ -54,10 +54,6 @@ kind-said Polygon h = refl
 kind-said AltitudePoint h = refl
 kind-said AltitudeEllipsoid h = refl
 kind-said Arc h = refl
-
--- a record of no kind is answered with 2
-pub no_kind : (x : Shape) → x.kind ≡ Nothing → (room : ℕ) → WriteAnswer (rows_of x) (value_of x) room 2
-no_kind x e room = unmet (λ l. absurd (omega (arith, subst (λ (k : Kind). TypeKnown (shape_rows k x.count)) e l))) refl
 
 -- ---- the elements of points
 
@@ -163,7 +159,7 @@ module _ (x : Shape) (holds : Held x) where
     said : (P : List Row → (MessageField → ℕ) → Type 0) → P (array_rows (shape_elements x)) (value_in (shape_elements x)) → P (rows_of x) (value_of x)
     said P h = subst (P (rows_of x)) (λ i f. value-said f i) (subst (λ (rows : List Row). P rows (value_in (shape_elements x))) rows-said h)
 
-    pub writes-said : {before after : List ℕ} {w : Written} → WritesElements (shape_elements x) before after w → WritesShape x before after w
+    pub writes-said : {before after : List ℕ} {w : Result ℕ Refusal} → WritesElements (shape_elements x) before after w → WritesShape x before after w
     writes-said {before} {after} {w} = said (λ rows value. Writes rows value before after w)
 
     pub answer-said : {m : ℕ} → RecordAnswer (array_rows (shape_elements x)) (value_in (shape_elements x)) m → ShapeAnswer x m

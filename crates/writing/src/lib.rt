@@ -5,31 +5,27 @@ ghost use Rattle.ground.specs.Answers.{outcome_number};
 ghost use Rattle.layout.specs.Shapes.{WritesShape};
 ghost use Rattle.writing.specs.Writing.{ShapeAnswer};
 
-use ground::{Outcome, Refusal};
-use layout::{Kind, Shape, Written};
+use ground::Refusal;
+use layout::{Kind, Shape};
 
 // Writes the record's message into the first octets of the buffer, or refuses the record and leaves the buffer as it is.
-pub fn write_shape(out: &mut [u8], shape: Shape) -> Written
+pub fn write_shape(out: &mut [u8], shape: Shape) -> Result<usize, Refusal>
     ensures { WritesShape shape out.old out.new result }
 {
-    let kind = shape.kind;
-    if let Kind::Nothing = kind {
-        return Written {
-            outcome: Outcome::Refused(Refusal::UnknownType),
-            length: 0,
-        };
+    if let Kind::Nothing = shape.kind {
+        return Err(Refusal::UnknownType);
     }
     let codes = code_arrays::elements_of(shape);
     composing::write(out, &codes)
 }
 
 // What writing the record answers, given room for its message.
-pub fn shape_outcome(shape: Shape) -> Outcome
+pub fn shape_outcome(shape: Shape) -> Result<(), Refusal>
     ensures { ShapeAnswer shape (outcome_number result) }
 {
     let kind = shape.kind;
     if let Kind::Nothing = kind {
-        return Outcome::Refused(Refusal::UnknownType);
+        return Err(Refusal::UnknownType);
     }
     let codes = code_arrays::elements_of(shape);
     judging::outcome(&codes, kind)

@@ -7,18 +7,14 @@ use lib.ListN.{replicate}
 use lib.Seq.{sets}
 use Rattle.fetching.specs.Fetching.{latitudes_of, longitudes_of}
 use Rattle.code_arrays.specs.Shapes.{point_elements}
-use Rattle.array_reading.proofs.IntoLaws.{short-into, put-into, few-points, long_enough, polygon-read}
-use borrow.Author.Rules.{rules}
+use Rattle.array_reading.proofs.IntoLaws.{short-into, put-into, long_enough, polygon-read}
 use Rattle.array_reading.proofs.read_polygon.Goals as goal
 
 pub returns-then-codes-lt61 : goal.returns-then-codes-lt61
 returns-then-codes-lt61 c = short-into _ (polygon-read c.requires.starts c.requires.message_form_answer) (omega arith)
 
-pub put_read_points-requires : goal.put_read_points-requires
-put_read_points-requires c = record { in_bounds = search rules; n_bound = few-points c.requires.starts c.requires.message_form_answer; n_in_bounds = long_enough c.requires.starts c.requires.message_form_answer }
-
-pub clear_from-requires : goal.clear_from-requires
-clear_from-requires c = record { in_bounds = search rules; n_bound = few-points c.requires.starts c.requires.message_form_answer }
+pub put_read_points-requires-clause-n_in_bounds : goal.put_read_points-requires-clause-n_in_bounds
+put_read_points-requires-clause-n_in_bounds c = long_enough c.requires.starts c.requires.message_form_answer
 
 pub returns : goal.returns
 returns c =

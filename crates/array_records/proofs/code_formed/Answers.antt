@@ -1,5 +1,7 @@
 -- Each test of the outline is one of the quantities; the elements before the points, the points and zeros are those of the record.
-use mathlib.Core.Path.{◌≡◌, ap, ◌∙◌}
+use Rattle.std.specs.Prelude.{Ok}
+use Rattle.std.proofs.lemmas.Result.{err_from_is_err_and}
+use mathlib.Core.Path.{◌≡◌, refl, ap, ◌∙◌}
 use mathlib.Core.List.{List}
 use Prim.Native.Nat.{ℕ, ◌+◌, ◌*◌, ◌-◌, ◌≤◌}
 use native.Mathlib.Omega.{arith}
@@ -8,7 +10,6 @@ use lib.ListN.{replicate}
 use lib.Seq.{sets}
 use borrow.Author.Rules.{rules}
 use borrow.Author.Tests.{not-true}
-use Rattle.ground.specs.declared.refusals.Outcome.TheVariants.{Done}
 use Rattle.ground.specs.Answers.{Decides}
 use Rattle.ground.proofs.AnswerLaws.{shown, refuted}
 use Rattle.quantities.specs.declared.shape.ShapeQuantities.{ShapeQuantities}
@@ -58,32 +59,38 @@ module _ (elements : List ℤ) {outline : ShapeQuantities} (same : outline ≡ q
     -- the record with any codes of its points
     coded : (s : Sizes) (x : Shape) → RestZero (uses_of (quantities_in elements).kind) (quantities_in elements) → outline.semi_minor.0 ≤ outline.semi_major.0 → CodedPoints elements (quantities_in elements).count
         → SizeCodes outline s → Outlined outline r s x → Formed (quantities_in elements) → (u : UsedCodes elements (quantities_in elements).count)
-        → CodesShape (quantities_in elements) (record { outcome = Done; shape = with_points x (points_of u) })
+        → CodesShape (quantities_in elements) (Ok (with_points x (points_of u)))
     coded s x idle axes p sized outlined formed u =
         shape-done (quantities_in elements) r s (points_of u) x (kept idle axes p) ranged (sizes-in elements (rw same at sized)) (points-codes u p.kept) (outlined-in elements (rw same at outlined)) formed
 
 pub returns-then-not-is_zero : goal.returns-then-not-is_zero
-returns-then-not-is_zero c = out-into c.args.given.now c.requires.formed c.requires.shape_arrives (λ r. refuted c.is_zero.result (ap not c.if-not-is_zero.true) (rw (c.used_by-uses.ensures, c.requires.outline_value) at c.is_zero.ensures) (rest-zero-out c.args.given.now (rest-zero (quantities_in c.args.given.now) r)))
+returns-then-not-is_zero c = out-into c.args.given.now c.requires.formed c.requires.shape_arrives _ refl (λ r. refuted c.is_zero.result (ap not c.if-not-is_zero.true) (rw (c.used_by-uses.ensures, c.requires.outline_value) at c.is_zero.ensures) (rest-zero-out c.args.given.now (rest-zero (quantities_in c.args.given.now) r)))
 
 pub returns-then-outline : goal.returns-then-outline
-returns-then-outline c = out-into c.args.given.now c.requires.formed c.requires.shape_arrives (λ r. let less = rw c.requires.outline_value at c.if-outline.true in absurd (omega (arith, r.axes)))
+returns-then-outline c = out-into c.args.given.now c.requires.formed c.requires.shape_arrives _ refl (λ r. let less = rw c.requires.outline_value at c.if-outline.true in absurd (omega (arith, r.axes)))
 
-pub returns-in_default : goal.returns-in_default
-returns-in_default c = out-into c.args.given.now c.requires.formed c.requires.shape_arrives (λ r. (rw (c.in_default.is, c.used_by-uses.ensures, c.requires.outline_value) at c.code_ranges.ensures) (ranges-out c.args.given.now (ranges-kept (quantities_in c.args.given.now) r)))
+pub returns-in_err-ranged : goal.returns-in_err-ranged
+returns-in_err-ranged c =
+    let out = rw (c.used_by-uses.ensures, c.requires.outline_value) at c.in_err-ranged.ensures in
+    let p = err_from_is_err_and c.from_residual.result c.from_residual.ensures.1 in
+    rw (p.1, p.2) (out-into c.args.given.now c.requires.formed c.requires.shape_arrives _ out.0 (λ r. out.1 (ranges-out c.args.given.now (ranges-kept (quantities_in c.args.given.now) r))))
 
 pub in_range-requires : goal.in_range-requires
 in_range-requires c = record { in_bounds = c.requires.in_bounds; n_bound = few c.args.given.now c.requires.outline_value c.used_by-uses.ensures c.if-not-is_zero.false c.is_zero.ensures c.requires.formed }
 
 pub returns-then-not-in_range : goal.returns-then-not-in_range
-returns-then-not-in_range c = out-into c.args.given.now c.requires.formed c.requires.shape_arrives (λ r. (rw (not-true c.in_range.result (ap not c.if-not-in_range.true), c.requires.outline_value) at c.in_range.ensures) (points_kept (quantities_in c.args.given.now) r))
+returns-then-not-in_range c = out-into c.args.given.now c.requires.formed c.requires.shape_arrives _ refl (λ r. (rw (not-true c.in_range.result (ap not c.if-not-in_range.true), c.requires.outline_value) at c.in_range.ensures) (points_kept (quantities_in c.args.given.now) r))
 
-pub returns-in_default-code_sizes : goal.returns-in_default-code_sizes
-returns-in_default-code_sizes c =
+pub returns-in_err-sizes : goal.returns-in_err-sizes
+returns-in_err-sizes c =
     let same = c.requires.outline_value in
     let idle = rest c.args.given.now c.requires.outline_value c.used_by-uses.ensures c.if-not-is_zero.false c.is_zero.ensures in
     let p = points c.args.given.now c.requires.outline_value c.if-not-in_range.false c.in_range.ensures in
-    large-into c.args.given.now c.requires.formed c.requires.shape_arrives (kept c.args.given.now same c.in-Codes.ranged c.used_by-uses.ensures (rw c.in-Codes.is at c.code_ranges.ensures) idle c.if-outline.false p)
-    (λ s. (rw (c.in_default-code_sizes.is, same) at c.code_sizes.ensures) (sizes-out c.args.given.now s))
+    let large = rw same at c.in_err-sizes.ensures in
+    let e = err_from_is_err_and c.from_residual-in_err-sizes.result c.from_residual-in_err-sizes.ensures.1 in
+    rw (e.1, e.2)
+    (large-into c.args.given.now c.requires.formed c.requires.shape_arrives _ large.0 (kept c.args.given.now same c.in_ok-ranged.ranged c.used_by-uses.ensures c.in_ok-ranged.ensures idle c.if-outline.false p)
+    (λ s. large.1 (sizes-out c.args.given.now s)))
 
 pub returns-then-codes-lt61 : goal.returns-then-codes-lt61
 returns-then-codes-lt61 c =
@@ -91,7 +98,7 @@ returns-then-codes-lt61 c =
     let idle = rest c.args.given.now c.requires.outline_value c.used_by-uses.ensures c.if-not-is_zero.false c.is_zero.ensures in
     let p = points c.args.given.now c.requires.outline_value c.if-not-in_range.false c.in_range.ensures in
     short-into c.args.given.now c.requires.formed c.requires.shape_arrives (with_points c.outlined-shape.result (points_of p.codes))
-    (coded c.args.given.now same c.in-Codes.ranged c.used_by-uses.ensures (rw c.in-Codes.is at c.code_ranges.ensures) c.in-Codes-code_sizes.sizes c.outlined-shape.result idle c.if-outline.false p (rw c.in-Codes-code_sizes.is at c.code_sizes.ensures) c.outlined-shape.ensures c.requires.formed p.codes) (omega arith)
+    (coded c.args.given.now same c.in_ok-ranged.ranged c.used_by-uses.ensures c.in_ok-ranged.ensures c.in_ok-sizes.sizes c.outlined-shape.result idle c.if-outline.false p c.in_ok-sizes.ensures c.outlined-shape.ensures c.requires.formed p.codes) (omega arith)
 
 pub put_coded_points-requires : goal.put_coded_points-requires
 put_coded_points-requires c =
@@ -108,6 +115,6 @@ returns c =
     let put = rw same at c.put_coded_points.ensures in
     let u = put.codes in
     put-into c.args.given.now c.requires.formed c.requires.shape_arrives (with_points c.outlined-shape.result (points_of u))
-    (coded c.args.given.now same c.in-Codes.ranged c.used_by-uses.ensures (rw c.in-Codes.is at c.code_ranges.ensures) c.in-Codes-code_sizes.sizes c.outlined-shape.result idle c.if-outline.false p (rw c.in-Codes-code_sizes.is at c.code_sizes.ensures) c.outlined-shape.ensures c.requires.formed u) n m (ap (λ (o : ShapeQuantities). o.count) same) u.ended (omega arith)
+    (coded c.args.given.now same c.in_ok-ranged.ranged c.used_by-uses.ensures c.in_ok-ranged.ensures c.in_ok-sizes.sizes c.outlined-shape.result idle c.if-outline.false p c.in_ok-sizes.ensures c.outlined-shape.ensures c.requires.formed u) n m (ap (λ (o : ShapeQuantities). o.count) same) u.ended (omega arith)
     (c.clear_from.ensures
     ∙ ap (λ (l : List ℕ). sets l (16 + 3 * m) (replicate (45 - 3 * m) 0)) (put.put ∙ ap (λ (l : List ℕ). sets l 16 (point_elements u.latitudes u.longitudes n)) c.put_singles.ensures))

@@ -1,14 +1,13 @@
 -- What is written for the codes is what the choice promises; the refusals are those of coding.
+use Rattle.std.proofs.lemmas.Result.{err_from_is_err_and}
 use Rattle.requests.specs.Choice.{Listed, refuses}
-use Rattle.requests.proofs.TameLaws.{tame}
 use Rattle.choice.proofs.WritingLaws.{chosen_of, refused-of}
 use Rattle.choice.proofs.choose.Goals as goal
 
-pub write_best-requires : goal.write_best-requires
-write_best-requires c = tame c.args.request _ (rw c.in-Codes.is at c.request_codes.ensures).2
+pub returns : goal.returns
+returns c = let p = c.in_ok-codes.ensures in chosen_of c.args.request (Listed c.args.list) c.args.out.now _ p.0 p.1 p.2 c.write_best.ensures
 
-pub returns-in-Codes : goal.returns-in-Codes
-returns-in-Codes c = let p = rw c.in-Codes.is at c.request_codes.ensures in chosen_of c.args.request (Listed c.args.list) c.args.out.now _ p.0 p.1 p.2 c.write_best.ensures
-
-pub returns-in-Refused : goal.returns-in-Refused
-returns-in-Refused c = rw (c.refused.ensures.outcome, c.refused.ensures.length) (refuses (refused-of c.args.request (Listed c.args.list) c.args.out.now _ (rw c.in-Refused.is at c.request_codes.ensures)))
+pub returns-in_err-codes : goal.returns-in_err-codes
+returns-in_err-codes c =
+    let p = err_from_is_err_and c.from_residual.result c.from_residual.ensures.1 in
+    rw (p.1, p.2) (refuses (refused-of c.args.request (Listed c.args.list) c.args.out.now _ c.in_err-codes.ensures))

@@ -14,6 +14,6 @@ returns-in_default c = λ line l. record {
 
 pub returns : goal.returns
 returns c = λ line l. record {
-  says = λ _. list_read (rw (l.kept c.if-input.false, c.in-Shapes.is) at c.list_in.ensures);
+  says = λ _. list_read (rw (l.kept c.if-input.false, c.in-Some.is) at c.list_in.ensures);
   too_long = λ long. absurd (omega (arith, long, l.short c.if-input.false));
 }

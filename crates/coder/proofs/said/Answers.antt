@@ -1,10 +1,6 @@
 -- The line is where the block has it, unless it is long.
-use mathlib.Core.Path.{refl}
 use native.Mathlib.Omega.{arith}
 use Rattle.coder.proofs.said.Goals as goal
-
-pub returns-then-input : goal.returns-then-input
-returns-then-input c = λ line l. record { answers = λ short. absurd (omega (arith, short, l.long c.if-input.true)); too_long = λ _. refl }
 
 pub returns : goal.returns
 returns c = λ line l. record {

@@ -28,9 +28,6 @@ returns-then-not-within c =
     refuted c.within.result (ap not c.if-not-within.true) c.within.ensures
     (rw (c.numbers_in.ensures, c.largest_of.ensures ∙ ap largest_of c.requires.kind_value) (singles-within (array_kind elements) (value_in elements count) (value_in elements) h))
 
-pub overflow_cast-count : goal.overflow_cast-count
-overflow_cast-count c = omega (arith, c.type_inv.codes 1)
-
 pub within-requires-2 : goal.within-requires-2
 within-requires-2 c =
     let elements = c.args.codes.now in

@@ -19,9 +19,6 @@ returns-then-v-lt8388608 c =
     let v = c.args.v in
     rw (to_z_pos w32 v (omega arith), lt-ltb v 8388608 (omega arith))
 
-pub overflow_sub-result : goal.overflow_sub-result
-overflow_sub-result c = negative c.args.v c.requires
-
 pub returns : goal.returns
 unfolding from_complement
 returns c =

@@ -1,19 +1,15 @@
--- The first i octets of src are put; one more goes after them.
-use Rattle.std.proofs.Common.{ℕ, ◌+◌, ◌<◌, ◌≤◌, List, length, get_or, take, set, add_assoc, add-one, arith, length-set, take_all, take-suc}
-use Rattle.text.specs.Text.{Puts}
-use Rattle.text.proofs.OutputLaws.{then, one}
+-- The part of out that src was copied to is src.
+use Rattle.std.proofs.Common.{length, refl, ◌∙◌, append_assoc, arith}
+use Rattle.std.proofs.lemmas.List.Edits.{sets-eq, paste_all}
+use Rattle.std.proofs.lemmas.Slice.{put_mid-paste}
 use Rattle.text.proofs.put_bytes.Goals as goal
-
--- a turn of the loop
-copied : {x y : List ℕ} {at : ℕ} (s : List ℕ) (i : ℕ) → i < length s → Puts x at (take i s) y (at + i) → Puts x at (take (i + 1) s) (set y (at + i) (get_or s i 0)) (at + (i + 1))
-copied {x} {y} {at} s i h p =
-    rw (← add_assoc at i 1, add-one i, take-suc s i 0 h) (then p (one y (at + i) (get_or s i 0)))
-
-pub loop-i-preserved : goal.loop-i-preserved
-loop-i-preserved c =
-    (omega arith, copied c.args.src.now c.loop-i.i c.loop-i-test.true c.loop-i.invariant.1, simp length-set c.loop-i.invariant.2)
 
 pub returns : goal.returns
 returns c =
-    let h : length c.args.src.now ≤ c.loop-i.i = c.loop-i-test.false in
-    rw (take_all c.loop-i.i c.args.src.now h) at c.loop-i.invariant.1
+    let src = c.args.src.now in
+    let out = c.args.out.now in
+    let at = c.args.at in
+    record {
+      content = rw (sets-eq src out at c.requires, append_assoc) (put_mid-paste at _ out _ src (length src) c.copy_from_slice.ensures.after (omega arith) refl ∙ paste_all out at src (length src) refl);
+      place = refl;
+    }

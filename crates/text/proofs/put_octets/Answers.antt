@@ -1,21 +1,16 @@
--- The first i octets are put; one more goes after them.
-use Rattle.std.proofs.Common.{◌≤◌, length, refl, ◌∙◌, arith, take_all}
+-- The octets before the one in turn are put.
+use Rattle.std.proofs.Common.{arith}
 use Rattle.text.specs.Text.{octets_text}
 use Rattle.text.proofs.OctetLaws.{octets-turn}
-use Rattle.text.proofs.OutputLaws.{none, kept}
+use Rattle.text.proofs.OutputLaws.{none}
 use Rattle.text.proofs.put_octets.Goals as goal
 
-pub loop-i-init : goal.loop-i-init
+pub loop-octet-init : goal.loop-octet-init
 unfolding octets_text
-loop-i-init c = (omega arith, omega arith, none, refl)
+loop-octet-init c = (omega arith, none)
 
-pub loop-i-preserved : goal.loop-i-preserved
-loop-i-preserved c =
-    let l = c.loop-i in
+pub loop-octet-preserved : goal.loop-octet-preserved
+loop-octet-preserved c =
+    let l = c.loop-octet in
     let p = c.put_octet-next.ensures in
-    (omega arith, omega (arith, p.place), octets-turn c.args.src.now l.i c.loop-i-test.true l.invariant.2 p, kept p ∙ l.invariant.3)
-
-pub returns : goal.returns
-returns c =
-    let h : length c.args.src.now ≤ c.loop-i.i = c.loop-i-test.false in
-    rw (take_all c.loop-i.i c.args.src.now h) at c.loop-i.invariant.2
+    (omega (arith, p.place), octets-turn c.args.src.now l.octet-index c.loop-octet-test.true l.invariant.1 p)

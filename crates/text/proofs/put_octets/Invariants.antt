@@ -1,10 +1,7 @@
--- The first i octets are put; one more goes after them.
-use Rattle.std.proofs.Common.{◌≡◌, ◌+◌, ◌-◌, ◌*◌, ◌≤◌, length, take}
+-- The octets before the one in turn are put.
+use Rattle.std.proofs.Common.{◌≡◌, ◌+◌, ◌*◌, take}
 use Rattle.text.specs.Text.{Puts, octets_text}
 use Rattle.text.proofs.put_octets.Given as goal
 
-abbrev pub invariant-loop-i : goal.invariant-loop-i
-invariant-loop-i l = (l.i ≤ length l.src) × (l.next ≡ l.at + 3 * l.i) × Puts l.initial.out l.at (octets_text (take l.i l.src)) l.out l.next × (length l.out ≡ length l.initial.out)
-
-abbrev pub decreases-loop-i : goal.decreases-loop-i
-decreases-loop-i l = length l.src - l.i
+abbrev pub invariant-loop-octet : goal.invariant-loop-octet
+invariant-loop-octet l = (l.next ≡ l.at + 3 * l.octet-index) × Puts l.initial.out l.at (octets_text (take l.octet-index l.src)) l.out l.next

@@ -1,15 +1,6 @@
 -- The elements of a record say the record, so that what is answered to them is answered to it.
-use mathlib.Core.Path.{sym}
-use native.Mathlib.Omega.{arith}
-use Rattle.writing.proofs.ElementLaws.{no_kind, kind-said, held, answer-said}
+use Rattle.writing.proofs.ElementLaws.{held, answer-said}
 use Rattle.writing.proofs.shape_outcome.Goals as goal
-
-pub returns-in-Nothing : goal.returns-in-Nothing
-returns-in-Nothing c = no_kind c.args.shape c.in-Nothing.is _
-
-pub outcome-requires : goal.outcome-requires
-outcome-requires c =
-    rw c.elements_of-codes.ensures (record { in_bounds = omega arith; kind_value = sym (kind-said c.args.shape.kind c.in_default.not-Nothing) })
 
 pub returns : goal.returns
 returns c =

@@ -1,13 +1,10 @@
 -- The flag says whether the elements passed are all 0.
-use Prim.Native.Nat.{ℕ, ◌-◌, ◌≤◌, ◌<◌}
+use Prim.Native.Nat.{ℕ, ◌+◌, ◌<◌}
 use mathlib.Core.Path.{◌≡◌}
 use lib.IntN.{pos}
 use Rattle.ground.specs.Answers.{Decides}
 use Rattle.code_arrays.specs.QuantityNumbers.{quantity_in}
 use Rattle.array_records.proofs.points.none_from.Given as goal
 
-abbrev pub invariant-loop-at : goal.invariant-loop-at
-invariant-loop-at l = (l.first ≤ l.at) × (l.at ≤ 44) × Decides l.all ((k : ℕ) → k < l.at → l.first ≤ k → quantity_in l.given k ≡ pos 0)
-
-abbrev pub decreases-loop-at : goal.decreases-loop-at
-decreases-loop-at l = 44 - l.at
+abbrev pub invariant-loop-element : goal.invariant-loop-element
+invariant-loop-element l = Decides l.all ((k : ℕ) → k < l.element-index → quantity_in l.given (l.first + k) ≡ pos 0)

@@ -1,20 +1,13 @@
--- The first i elements are copied; a turn copies one more.
-use mathlib.Core.Path.{refl}
+-- A turn copies one more.
+use mathlib.Core.Path.{◌≡◌}
+use Prim.Native.Nat.{◌+◌}
 use native.Mathlib.Omega.{arith}
-use Rattle.code_arrays.proofs.CopyLaws.{as_long, one_more, all-copied}
+use Rattle.std.proofs.lemmas.List.Edits.{paste_more}
 use Rattle.code_arrays.proofs.code_numbers.put_codes.Goals as goal
 
-pub loop-i-init : goal.loop-i-init
-loop-i-init c = record { within = omega arith; content = refl }
-
-pub bounds-out-i : goal.bounds-out-i
-bounds-out-i c = omega (arith, as_long c.requires c.loop-i.invariant)
-
 pub loop-i-preserved : goal.loop-i-preserved
-loop-i-preserved c = one_more c.requires c.loop-i.invariant _ 0 c.loop-i-test.true refl
-
-pub shape_of-out : goal.shape_of-out
-shape_of-out c = as_long c.requires c.loop-i.invariant
-
-pub returns : goal.returns
-returns c = all-copied c.requires c.loop-i.invariant c.loop-i-test.false
+loop-i-preserved c =
+    let i = c.loop-i.i in
+    let e : 0 + i ≡ i = omega arith in
+    let more = paste_more c.args.out.now 0 c.args.src.now i 0 (omega arith) (omega arith) in
+    cc

@@ -1,11 +1,7 @@
--- The first i elements are copied; a turn copies one more.
-use Prim.Native.Nat.{◌-◌}
-use lib.ListN.{length}
-use Rattle.code_arrays.proofs.CopyLaws.{Copied}
+-- The first i elements are copied.
+use mathlib.Core.Path.{◌≡◌}
+use lib.Seq.{paste}
 use Rattle.code_arrays.proofs.code_numbers.put_codes.Given as goal
 
 abbrev pub invariant-loop-i : goal.invariant-loop-i
-invariant-loop-i l = Copied l.initial.out l.src l.out l.i
-
-abbrev pub decreases-loop-i : goal.decreases-loop-i
-decreases-loop-i l = length l.src - l.i
+invariant-loop-i l = l.out ≡ paste l.initial.out 0 l.src l.i

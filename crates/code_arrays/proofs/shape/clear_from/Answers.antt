@@ -1,23 +1,10 @@
--- After each turn there is one zero more.
-use mathlib.Core.Path.{◌≡◌, refl, ap, ◌∙◌}
-use Prim.Native.Nat.{ℕ, ◌+◌, ◌*◌, ◌-◌}
+-- The zeros stand in the place of the points.
+use Prim.Native.Nat.{◌+◌, ◌*◌, ◌-◌}
 use native.Mathlib.Omega.{arith}
-use lib.ListN.{length-set, replicate}
-use lib.Seq.{sets}
-use Rattle.code_arrays.proofs.ClearLaws.{none-cleared, one-cleared}
+use Rattle.code_arrays.proofs.ClearLaws.{cleared}
 use Rattle.code_arrays.proofs.shape.clear_from.Goals as goal
-
-pub loop-i-init : goal.loop-i-init
-loop-i-init c = (omega arith, omega arith, none-cleared 0 _ (16 + 3 * c.args.n), refl)
-
-pub loop-i-preserved : goal.loop-i-preserved
-loop-i-preserved c =
-    let l = c.loop-i in
-    (omega arith, omega arith, one-cleared 0 _ l.out _ l.i l.invariant.0 l.invariant.2, simp length-set l.invariant.3)
 
 pub returns : goal.returns
 returns c =
-    let a = c.args in
-    let l = c.loop-i in
-    let w : l.i - (16 + 3 * a.n) ≡ 45 - 3 * a.n = omega arith in
-    l.invariant.2 ∙ ap (λ (k : ℕ). sets a.out.now (16 + 3 * a.n) (replicate k 0)) w
+    let n = c.args.n in
+    cleared 0 c.args.out.now _ (16 + 3 * n) (61 - (16 + 3 * n)) (45 - 3 * n) (omega arith) (omega arith) (c.fill.ensures.after (λ y e. e))

@@ -15,7 +15,7 @@ returns c =
     let given = c.args in
     let number_in = c.number_in in
     let unsigned-32 = c.unsigned_32 in
-    let read = c.in-Number in
+    let read = c.in-Some in
     let coded-unsigned = c.coded_unsigned in
     let line-of-code = c.line_of_code in
     unsigned-coded given.field coded-unsigned.result (unsigned-says given.text.now number_in.ensures read.is unsigned-32.ensures) coded-unsigned.ensures line-of-code.ensures

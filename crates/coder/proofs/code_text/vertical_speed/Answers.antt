@@ -21,7 +21,7 @@ returns c =
     let given = c.args in
     let number_in = c.number_in in
     let signed-32 = c.signed_32 in
-    let read = c.in-Number in
+    let read = c.in-Some in
     let coded-vertical-speed = c.coded_vertical_speed in
     let line-of-code = c.line_of_code in
     let says = signed-says given.text.now number_in.ensures read.is signed-32.ensures in coded (number-uncut given.text.now says.means) says (rw (to_z-of_z {w = w32} {z = read.x} (search rules)) at coded-vertical-speed.ensures) line-of-code.ensures

@@ -3,7 +3,8 @@ use mathlib.Core.Path.{subst}
 use Prim.Native.Nat.{◌+◌, ◌-◌}
 use native.Mathlib.Omega.{arith}
 use lib.ListN.{length, take, drop}
-use Rattle.text.specs.declared.numeral.Numeral.{Numeral}
+use Rattle.ground.specs.declared.signs.Parts.{Parts}
+use Rattle.std.specs.Prelude.{Option}
 use Rattle.text.specs.Widths.{AsSize}
 use Rattle.text.proofs.LineFieldLaws.{unmarked}
 use Rattle.coder.proofs.ReportLaws.{one-text, first_of}
@@ -22,4 +23,4 @@ returns c =
     let number-in2 = c.number_in-2 in
     let size-of2 = c.size_of in
     let with-sign = c.with_sign in
-    rw (first_of field-end.ensures (omega (arith, field-end.ensures.inside, if1.false))) (with-sign.ensures (take (field-end.result - 0) (drop 0 given.texts.now)) (take (length given.texts.now - (field-end.result + 1)) (drop (field-end.result + 1) given.texts.now)) (subst (λ (n : Numeral). AsSize n type_size.result) number_in.ensures type_size.ensures) (subst (λ (n : Numeral). AsSize n size-of2.result) number-in2.ensures size-of2.ensures))
+    rw (first_of field-end.ensures (omega (arith, field-end.ensures.inside, if1.false))) (with-sign.ensures (take field-end.result given.texts.now) (take (length given.texts.now - (field-end.result + 1)) (drop (field-end.result + 1) given.texts.now)) (subst (λ (n : Option Parts). AsSize n type_size.result) number_in.ensures type_size.ensures) (subst (λ (n : Option Parts). AsSize n size-of2.result) number-in2.ensures size-of2.ensures))

@@ -4,7 +4,7 @@ use Rattle.coder.proofs.ReportLaws.{no_sign, signed-reported}
 use Rattle.coder.proofs.report_text.with_bit.Goals as goal
 
 pub returns-then-sign-gt1 : goal.returns-then-sign-gt1
-returns-then-sign-gt1 c = λ first rest m i. no_sign c.args.field first rest (omega arith) m i
+returns-then-sign-gt1 c = rw c.no_code.ensures (λ first rest m i. no_sign c.args.field first rest (omega arith) m i)
 
 pub returns : goal.returns
 returns c =

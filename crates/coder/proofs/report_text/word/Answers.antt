@@ -1,29 +1,7 @@
--- `quantity::word` meets its contract: a number, one below zero, or none.
-use Rattle.coder.specs.FieldTexts.{word_field}
-use Rattle.coder.proofs.ReportLaws.{size-code, size_below, size-nothing, word-plain, below-reported, nothing-reported, word-reported}
+-- Each answer of the reporter is what its field tells.
+use borrow.Author.Rules.{rules}
+use Rattle.coder.proofs.ReportLaws.{word-plain, word-reported, number-reported}
 use Rattle.coder.proofs.report_text.word.Goals as goal
 
-pub returns-in-Code : goal.returns-in-Code
-returns-in-Code c =
-    let given = c.args in
-    let number_in = c.number_in in
-    let type_size = c.size_of in
-    let read = c.in-Code in
-    let capped = c.capped in
-    let reported-word = c.reported_word in
-    let line-of-quantity = c.line_of_quantity in
-    word-reported given.text.now (size-code given.text.now number_in.ensures type_size.ensures read.is) reported-word.result line-of-quantity.ensures given.field (rw capped.ensures at reported-word.ensures)
-
-pub returns-in-Below : goal.returns-in-Below
-returns-in-Below c =
-    let given = c.args in
-    let number_in = c.number_in in
-    let type_size = c.size_of in
-    below-reported (word-plain given.field) given.text.now (size_below given.text.now number_in.ensures type_size.ensures c.in-Below.is)
-
-pub returns-in-Nothing : goal.returns-in-Nothing
-returns-in-Nothing c =
-    let given = c.args in
-    let number_in = c.number_in in
-    let type_size = c.size_of in
-    nothing-reported (word_field given.field) (word-plain given.field).one given.text.now (size-nothing given.text.now number_in.ensures type_size.ensures c.in-Nothing.is)
+pub returns : goal.returns
+returns c = number-reported c.args.text.now (word-plain c.args.field) (λ n a m s e. word-reported c.args.text.now m a e c.args.field (search rules)) c.number.ensures

@@ -1,6 +1,4 @@
 -- A polygon's points, or a position and what follows it, after the first octet.
--- ---- a polygon
--- ---- any other kind
 use Prim.Native.Nat.{ℕ, ◌*◌}
 use mathlib.Core.Path.{◌≡◌, sym, ap, ◌∙◌}
 use mathlib.Core.List.{List}
@@ -17,21 +15,12 @@ use Rattle.composing.proofs.StoreLaws.{start-within, start-room, polygon-room}
 use Rattle.composing.proofs.ElementStores.{count_small, used-within, rest-fits, parts-stored, points-stored}
 use Rattle.composing.proofs.message.store_shape.Goals as goal
 
-pub overflow_cast-out : goal.overflow_cast-out
-overflow_cast-out c = omega (arith, count_small c.args.codes.now c.requires.in_fields)
-
-pub overflow_add-out : goal.overflow_add-out
-overflow_add-out c = omega (arith, rw c.in-Polygon.is at c.first_octet-first.ensures, count_small c.args.codes.now c.requires.in_fields)
-
 pub store_points-requires : goal.store_points-requires
 store_points-requires c =
     let polygon : array_kind c.args.codes.now ≡ Polygon = sym c.requires.kind_value ∙ c.in-Polygon.is in
     let elements = c.args.codes.now in
     let e = polygon in
     record { in_bounds = search rules; count_bound = omega (arith, count_small elements c.requires.in_fields); count_in_bounds = simp length-set (polygon-room (record_in elements) _ c.requires.shape_storable e); used_within = used-within elements c.requires.in_fields e }
-
-pub shape_of-out-in-Polygon : goal.shape_of-out-in-Polygon
-shape_of-out-in-Polygon c = c.store_points.auto.out ∙ simp length-set
 
 pub returns-in-Polygon : goal.returns-in-Polygon
 returns-in-Polygon c =
@@ -52,9 +41,6 @@ pub put_rest-requires : goal.put_rest-requires
 put_rest-requires c =
     let other : array_kind c.args.codes.now ≡ Polygon → ⊥ = λ e. c.in_default.not-Polygon (c.requires.kind_value ∙ e) in
     rest-fits c.args.codes.now c.requires.in_fields _ (rw c.put_position.auto.out (simp length-set c.requires.shape_storable.fits)) c.outline_in-outline.ensures other
-
-pub shape_of-out : goal.shape_of-out
-shape_of-out c = c.put_rest.auto.out ∙ c.put_position.auto.out ∙ simp length-set
 
 pub returns : goal.returns
 returns c =

@@ -1,5 +1,4 @@
 -- Six octets more at each turn, from the three elements of a point.
-use Prim.Native.Nat.{◌-◌, ◌≤◌}
 use mathlib.Core.Path.{◌≡◌}
 use lib.ListN.{length}
 use lib.Seq.{sets}
@@ -10,7 +9,4 @@ use Rattle.composing.specs.Composing.{positions}
 use Rattle.composing.proofs.points.store_points.Given as goal
 
 abbrev pub invariant-loop-i : goal.invariant-loop-i
-invariant-loop-i l = (element_at l.codes 1 ≡ value_in l.codes count) × (l.i ≤ element_at l.codes 1) × (l.out ≡ sets l.initial.out 1 (positions (record_in l.codes).latitudes (record_in l.codes).longitudes l.i)) × (length l.out ≡ length l.initial.out)
-
-abbrev pub decreases-loop-i : goal.decreases-loop-i
-decreases-loop-i l = element_at l.codes 1 - l.i
+invariant-loop-i l = (element_at l.codes 1 ≡ value_in l.codes count) × (l.out ≡ sets l.initial.out 1 (positions (record_in l.codes).latitudes (record_in l.codes).longitudes l.i)) × (length l.out ≡ length l.initial.out)

@@ -1,6 +1,6 @@
 -- After i turns the record has i points, and zeros after them.
 use Prim.Native.Nat.{◌+◌, ◌*◌}
-use mathlib.Core.Path.{◌≡◌, ap, ◌∙◌}
+use mathlib.Core.Path.{ap, ◌∙◌}
 use native.Mathlib.Omega.{arith}
 use lib.ListN.{set}
 use Rattle.ground.specs.declared.code.LatitudeCode.{LatitudeCode}
@@ -14,7 +14,7 @@ use Rattle.fetching.proofs.points.polygon.Goals as goal
 
 pub loop-i-init : goal.loop-i-init
 unfolding from_complement
-loop-i-init c = (omega arith, rw c.blank_shape-shape.ensures)
+loop-i-init c = rw c.blank_shape-shape.ensures
 
 pub loop-i-preserved : goal.loop-i-preserved
 loop-i-preserved c =
@@ -25,9 +25,4 @@ loop-i-preserved c =
     let lons = fill {A = LongitudeCode} (λ i. longitude_in s (8 * (4 + 6 * i))) 15 l.i zero_longitude (omega arith) in
     let p = ap (λ (v : LatitudeCode). set (latitudes_of l.i s) l.i v) c.latitude_at-latitude.ensures ∙ lats in
     let q = ap (λ (v : LongitudeCode). set (longitudes_of l.i s) l.i v) c.longitude_at-longitude.ensures ∙ lons in
-    (omega arith, rw l.invariant.1 (λ i. pointed (blank_shape Polygon) a.n (p i) (q i)))
-
-pub returns : goal.returns
-returns c =
-    let e : c.loop-i.i ≡ c.args.n = omega arith in
-    rw e at c.loop-i.invariant.1
+    rw l.invariant (λ i. pointed (blank_shape Polygon) a.n (p i) (q i))

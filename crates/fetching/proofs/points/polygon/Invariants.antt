@@ -1,5 +1,4 @@
 -- After i turns the record has i points, and zeros after them.
-use Prim.Native.Nat.{◌≤◌, ◌-◌}
 use mathlib.Core.Path.{◌≡◌}
 use Rattle.layout.specs.declared.shape.Kind.TheVariants.{Polygon}
 use Rattle.layout.specs.Shapes.{blank_shape}
@@ -7,7 +6,4 @@ use Rattle.fetching.specs.Fetching.{pointed, latitudes_of, longitudes_of}
 use Rattle.fetching.proofs.points.polygon.Given as goal
 
 abbrev pub invariant-loop-i : goal.invariant-loop-i
-invariant-loop-i l = (l.i ≤ l.n) × (l.shape ≡ pointed (blank_shape Polygon) l.n (latitudes_of l.i l.s) (longitudes_of l.i l.s))
-
-abbrev pub decreases-loop-i : goal.decreases-loop-i
-decreases-loop-i l = l.n - l.i
+invariant-loop-i l = l.shape ≡ pointed (blank_shape Polygon) l.n (latitudes_of l.i l.s) (longitudes_of l.i l.s)

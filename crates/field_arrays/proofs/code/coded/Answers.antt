@@ -1,10 +1,9 @@
--- `codes::coded` meets its contract: each number is a field's, from 14 on none.
+-- `code::coded` meets its contract: each number is a field's.
 use mathlib.Core.Path.{refl, sym}
 use mir.Syntax.{w64}
 use mir.Facts.{to_z-of_z}
-use Rattle.ground.proofs.MatchLaws.{passed}
 use Rattle.fields.specs.Fields as field
-use Rattle.field_arrays.specs.Fields.{coded, no_field, of_field}
+use Rattle.field_arrays.specs.Fields.{coded, of_field}
 use borrow.Author.Rules.{rules}
 use Rattle.field_arrays.proofs.code.coded.Goals as goal
 
@@ -49,6 +48,3 @@ returns-in-12 c = of_field {f = field.uncertainty_speed} (sym c.in-12.is) c.unce
 
 pub returns-in-13 : goal.returns-in-13
 returns-in-13 c = of_field {f = field.confidence} (sym c.in-13.is) c.confidence.ensures
-
-pub returns-in_default : goal.returns-in_default
-returns-in_default c = no_field (passed 14 _ c.in_default.in_default-own.rest) refl

@@ -1,4 +1,4 @@
--- `codes::confidence` meets its contract: the element has the mark of a missing quantity, or a number.
+-- `code::confidence` meets its contract: the element has the mark of a missing quantity, or a number.
 use Rattle.field_arrays.specs.Fields.{coded}
 use Rattle.field_arrays.proofs.code.confidence.Goals as goal
 

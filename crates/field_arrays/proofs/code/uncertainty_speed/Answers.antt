@@ -1,4 +1,4 @@
--- `codes::uncertainty_speed` meets its contract: the element has the mark of a missing quantity, or a number.
+-- `code::uncertainty_speed` meets its contract: the element has the mark of a missing quantity, or a number.
 use Rattle.field_arrays.specs.Fields.{coded}
 use Rattle.field_arrays.proofs.code.uncertainty_speed.Goals as goal
 

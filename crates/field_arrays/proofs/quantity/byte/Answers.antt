@@ -1,10 +1,7 @@
--- `quantity::byte` meets its contract: there is an element, and it holds the code.
+-- `quantity::byte` meets its contract: the first element holds the code.
 use native.Mathlib.Omega.{arith}
-use Rattle.field_arrays.proofs.FieldLaws.{byte-short, byte-said}
+use Rattle.field_arrays.proofs.FieldLaws.{byte-said}
 use Rattle.field_arrays.proofs.quantity.byte.Goals as goal
 
-pub returns-then-code-lt1 : goal.returns-then-code-lt1
-returns-then-code-lt1 c = byte-short c.args.field c.args.code.now (omega arith)
-
 pub returns : goal.returns
-returns c = byte-said c.args.field c.args.code.now c.reported_byte.result (omega arith) c.reported_byte.ensures
+returns c = byte-said c.args.field c.args.code.now _ (omega arith) c.reported_byte.ensures

@@ -1,8 +1,7 @@
--- `quantity::reported` meets its contract: each number is a field's, from 14 on none.
-use mathlib.Core.Path.{refl, sym}
-use Rattle.ground.proofs.MatchLaws.{passed}
+-- `quantity::reported` meets its contract: each number is a field's.
+use mathlib.Core.Path.{sym}
 use Rattle.fields.specs.Fields as field
-use Rattle.field_arrays.specs.Fields.{no_field, of_field}
+use Rattle.field_arrays.specs.Fields.{of_field}
 use Rattle.field_arrays.proofs.quantity.reported.Goals as goal
 
 pub returns-in-0 : goal.returns-in-0
@@ -46,6 +45,3 @@ returns-in-12 c = of_field {f = field.uncertainty_speed} (sym c.in-12.is) c.byte
 
 pub returns-in-13 : goal.returns-in-13
 returns-in-13 c = of_field {f = field.confidence} (sym c.in-13.is) c.byte-in-13.ensures
-
-pub returns-in_default : goal.returns-in_default
-returns-in_default c = no_field (passed 14 _ c.in_default.in_default-own.rest) refl

@@ -1,14 +1,10 @@
--- `quantity::signed` meets its contract: there are two elements, and the first is a bit.
+-- `quantity::signed` meets its contract: the first of two elements is a bit, and the second the number.
 use native.Mathlib.Omega.{arith}
-use Rattle.field_arrays.proofs.FieldLaws.{signed-short, no_sign, signed-said}
+use Rattle.field_arrays.proofs.FieldLaws.{signed-said}
 use Rattle.field_arrays.proofs.quantity.signed.Goals as goal
 
-pub returns-then-code-lt2 : goal.returns-then-code-lt2
-returns-then-code-lt2 c = signed-short c.args.field c.args.code.now (omega arith)
+pub returns-in-0 : goal.returns-in-0
+returns-in-0 c = signed-said c.args.field c.args.code.now _ (omega arith) (omega arith) (rw c.in-0.is c.reported_signed.ensures)
 
-pub returns-then-sign-gt1 : goal.returns-then-sign-gt1
-returns-then-sign-gt1 c = no_sign c.args.field c.args.code.now (omega arith) (omega arith)
-
-pub returns : goal.returns
-returns c =
-    signed-said c.args.field c.args.code.now c.reported_signed.result (omega arith) (omega arith) c.reported_signed.ensures
+pub returns-in-1 : goal.returns-in-1
+returns-in-1 c = signed-said c.args.field c.args.code.now _ (omega arith) (omega arith) (rw c.in-1.is c.reported_signed-in-1.ensures)

@@ -1,14 +1,11 @@
--- `library::request::uncertainty_in` meets its contract, by what the element holds.
+-- By the amount.
+use Rattle.std.specs.Prelude.{ℤ, Ok}
 use mathlib.Core.Path.{subst}
-use Rattle.request_lines.proofs.AmountLaws.{no-uncertainty}
+use Rattle.request_lines.proofs.AmountLaws.{uncertainty-says}
+use Rattle.code_arrays.proofs.NumberLaws.{element-read}
 use Rattle.library.specs.Requests.{IsMissing, SaysNatural, ReadsAmountElement}
+use borrow.Author.Rules.{rules}
 use Rattle.library.proofs.request.uncertainty_in.Goals as goal
 
-pub returns-in-Number : goal.returns-in-Number
-returns-in-Number c = subst (ReadsAmountElement c.args.element.0) c.in-Number.is c.amount_in.ensures
-
-pub returns-in-Absent : goal.returns-in-Absent
-returns-in-Absent c = subst (ReadsAmountElement c.args.element.0) c.in-Absent.is c.amount_in.ensures
-
-pub returns-in-Unreadable : goal.returns-in-Unreadable
-returns-in-Unreadable c = no-uncertainty IsMissing SaysNatural (subst (ReadsAmountElement c.args.element.0) c.in-Unreadable.is c.amount_in.ensures)
+pub returns : goal.returns
+returns c = uncertainty-says IsMissing SaysNatural c.args.element c.in_ok-amount_in.field-0 c.map.result c.map.ensures.cases (subst (λ (z : ℤ). ReadsAmountElement z (Ok c.in_ok-amount_in.field-0)) (element-read {z = c.args.element} (search rules)) c.in_ok-amount_in.ensures)

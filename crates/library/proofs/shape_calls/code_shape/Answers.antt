@@ -13,4 +13,4 @@ returns-then-quantities-lt-QUANTITIES c = too_short (omega arith) c.answer.ensur
 pub returns : goal.returns
 returns c =
     let long : 44 ≤ length c.args.quantities.now = omega arith in
-    long_enough long (code-said c.code-coded.ensures c.answer-2.ensures)
+    long_enough long (code-said c.code-coded.ensures (rw c.and.ensures at c.answer-2.ensures))

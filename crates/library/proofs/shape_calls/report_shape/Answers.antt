@@ -13,4 +13,4 @@ returns-then-codes-lt-CODES c = too_short (omega arith) c.answer.ensures refl
 pub returns : goal.returns
 returns c =
     let long : 61 ≤ length c.args.codes.now = omega arith in
-    long_enough long (report-said c.report-reported.ensures c.answer-2.ensures)
+    long_enough long (report-said c.report-reported.ensures (rw c.and.ensures at c.answer-2.ensures))

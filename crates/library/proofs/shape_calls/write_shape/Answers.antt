@@ -1,4 +1,5 @@
 -- The message of the elements is written, and its length said.
+use Rattle.std.proofs.lemmas.Result.{IfOk-weaker}
 use mathlib.Core.Path.{refl}
 use Prim.Native.Nat.{◌≤◌}
 use native.Mathlib.Omega.{arith}
@@ -11,7 +12,7 @@ pub returns-then-codes-lt-CODES : goal.returns-then-codes-lt-CODES
 returns-then-codes-lt-CODES c = too_short (omega arith) c.answer.ensures refl
 
 pub answer-requires-2 : goal.answer-requires-2
-answer-requires-2 c = omega (arith, written-within c.write-written.ensures)
+answer-requires-2 c = IfOk-weaker c.write-written.result _ _ (λ n h. omega (arith, h)) (written-within c.write-written.result c.write-written.ensures)
 
 pub returns : goal.returns
 returns c =

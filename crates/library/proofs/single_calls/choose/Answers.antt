@@ -1,4 +1,5 @@
 -- The request that the elements say is chosen for.
+use Rattle.std.proofs.lemmas.Result.{IfOk-weaker}
 use mathlib.Core.Path.{refl}
 use native.Mathlib.Omega.{arith}
 use Rattle.code_arrays.specs.Answers.{too_short, long_enough}
@@ -14,8 +15,8 @@ returns-in_default c =
     long_enough (omega arith) (no_request (rw c.in_default.is at c.request_in.ensures) c.answer-in_default.ensures refl)
 
 pub answer-requires-2 : goal.answer-requires-2
-answer-requires-2 c = omega (arith, chosen-within c.choose-written.result c.choose-written.ensures)
+answer-requires-2 c = IfOk-weaker c.choose-written.result _ _ (λ n h. omega (arith, h)) (chosen-within c.choose-written.result c.choose-written.ensures)
 
 pub returns : goal.returns
 returns c =
-    long_enough (omega arith) (chosen c.choose-written.result (rw c.in-Request.is at c.request_in.ensures) c.choose-written.ensures c.answer-2.ensures)
+    long_enough (omega arith) (chosen c.choose-written.result c.in-Ok.ensures c.choose-written.ensures c.answer-2.ensures)

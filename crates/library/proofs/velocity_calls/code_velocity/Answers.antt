@@ -9,4 +9,4 @@ returns-then-quantities-lt-QUANTITIES c = too_short (omega arith) c.answer.ensur
 
 pub returns : goal.returns
 returns c =
-    long_enough (omega arith) (record { coded = c.coded_in-coded.result; promise = c.coded_in-coded.ensures; put = c.put_codes.ensures })
+    long_enough (omega arith) (record { coded = c.coded_in.result; promise = c.coded_in.ensures; put = c.put_codes.ensures })

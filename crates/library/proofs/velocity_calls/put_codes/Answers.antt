@@ -1,16 +1,16 @@
 -- The elements are put where there is room, and only there.
-use mathlib.Core.Path.{refl, sym, ◌∙◌}
-use Rattle.ground.specs.declared.refusals.Outcome.TheVariants.{Done, Refused}
-use Rattle.code_arrays.proofs.PutLaws.{puts-by, had-room}
+use Rattle.std.specs.Prelude.{Ok, Err}
+use mathlib.Core.Path.{refl}
+use native.Mathlib.Omega.{arith}
+use Rattle.ground.specs.declared.refusals.Refusal.TheVariants.{BufferTooShort}
+use Rattle.code_arrays.proofs.PutLaws.{no_room, has_room, puts-by}
 use Rattle.library.proofs.velocity_calls.put_codes.Goals as goal
 
-pub put_velocity-requires : goal.put_velocity-requires
-put_velocity-requires c = had-room c.args.outcome 7 _ (sym c.in-Done.is ∙ c.given_room.ensures)
+pub returns-then-codes-lt-CODES : goal.returns-then-codes-lt-CODES
+returns-then-codes-lt-CODES c = rw c.in-Ok.is (puts-by {outcome = Ok tt} {left = Err BufferTooShort} (no_room 7 _ (omega arith)) c.answer.ensures refl)
 
-pub returns-in-Done : goal.returns-in-Done
-returns-in-Done c =
-    puts-by {outcome = c.args.outcome} {left = Done} (sym c.in-Done.is ∙ c.given_room.ensures) c.answer.ensures c.put_velocity.ensures
+pub returns-else-codes-lt-CODES : goal.returns-else-codes-lt-CODES
+returns-else-codes-lt-CODES c = rw c.in-Ok.is (puts-by {outcome = Ok tt} {left = Ok tt} (has_room 7 _ (omega arith)) c.answer-in-Ok.ensures c.put_velocity.ensures)
 
-pub returns-in-Refused : goal.returns-in-Refused
-returns-in-Refused c =
-    puts-by {outcome = c.args.outcome} {left = Refused c.in-Refused.why} (sym c.in-Refused.is ∙ c.given_room.ensures) c.answer-in-Refused.ensures refl
+pub returns-in-Err : goal.returns-in-Err
+returns-in-Err c = rw c.in-Err.is (record { answer = c.answer-in-Err.ensures; array = refl })

@@ -9,4 +9,4 @@ returns-then-codes-lt-CODES c = too_short (omega arith) c.answer.ensures refl
 
 pub returns : goal.returns
 returns c =
-    long_enough (omega arith) (record { reported = c.reported_in-reported.result; promise = c.reported_in-reported.ensures; put = c.put_quantities.ensures })
+    long_enough (omega arith) (record { reported = c.reported_in.result; promise = c.reported_in.ensures; put = c.put_quantities.ensures })

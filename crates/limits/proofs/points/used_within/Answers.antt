@@ -1,14 +1,10 @@
 -- Each point passed is within its fields.
 use mathlib.Core.Path.{sym, ap, ◌∙◌}
 use native.Mathlib.Omega.{arith}
-use borrow.Author.Rules.{rules}
 use borrow.Author.Count.{below_more}
 use Rattle.octets.specs.Codes.{complement}
 use Rattle.code_arrays.proofs.ArrayLaws.{south-element, latitude-element, longitude-element}
 use Rattle.limits.proofs.points.used_within.Goals as goal
-
-pub loop-i-init : goal.loop-i-init
-loop-i-init c = (search rules, λ k h. absurd (omega arith))
 
 pub returns-then-codes-at-gt1 : goal.returns-then-codes-at-gt1
 returns-then-codes-at-gt1 c = λ p. omega (arith, c.if-codes-at-gt1.true, south-element c.args.codes.now c.loop-i.i (omega arith), (p c.loop-i.i (omega arith)).sign)
@@ -29,7 +25,7 @@ loop-i-preserved c =
     let s = south-element elements i (omega arith) in
     let l = latitude-element elements i (omega arith) in
     let t = longitude-element elements i (omega arith) ∙ ap complement (sym c.longitude_of.ensures) ∙ sym c.complement_of.ensures in
-    (search rules, below_more _ _ c.loop-i.invariant.1 (record { sign = omega arith; size = omega arith; turn = omega arith }))
+    below_more _ _ c.loop-i.invariant (record { sign = omega arith; size = omega arith; turn = omega arith })
 
 pub returns : goal.returns
-returns c = λ i h. c.loop-i.invariant.1 i (omega arith)
+returns c = λ i h. c.loop-i.invariant i (omega arith)

@@ -25,7 +25,7 @@ put_bytes-answer-requires c = omega (arith, (decimal-within (omega arith) c.put_
 pub put_decimal-newline-requires : goal.put_decimal-newline-requires
 put_decimal-newline-requires c =
     let few = (decimal-within (omega arith) c.put_decimal-dash.ensures).within in
-    omega (arith, few, c.put_bytes-answer.ensures.place, decimal-most {n = c.refusal_number.result} (omega arith))
+    omega (arith, few, c.put_bytes-answer.ensures.place, decimal-most {n = c.from.result} (omega arith))
 
 pub put_byte-requires : goal.put_byte-requires
 put_byte-requires c =
@@ -35,4 +35,4 @@ put_byte-requires c =
 
 pub returns : goal.returns
 returns c =
-    broken-put _ _ c.refusal_number.ensures (decimal-within (omega arith) c.put_decimal-dash.ensures) (within {most = 3} (omega arith) c.put_bytes-answer.ensures) (decimal-within (omega arith) c.put_decimal-newline.ensures) (octet-within c.put_byte.ensures)
+    broken-put _ _ c.from.ensures (decimal-within (omega arith) c.put_decimal-dash.ensures) (within {most = 3} (omega arith) c.put_bytes-answer.ensures) (decimal-within (omega arith) c.put_decimal-newline.ensures) (octet-within c.put_byte.ensures)

@@ -1,48 +1,42 @@
--- `one_field::reporting::reported_byte` meets its contract: each arm tells what its reporter answers.
-use mathlib.Core.Path.{subst⁻¹}
-use Rattle.ground.specs.Answers.{done}
-use Rattle.fields.specs.Fields.{said_quantity}
-use Rattle.fields.specs.Fields as field
-use Rattle.one_field.specs.Reporting.{TellsByte}
-use Rattle.one_field.specs.declared.reporting.Byte.{Byte}
+-- `one_field::reporting::reported_byte` meets its contract: a number above 8 bits is refused, and what may be missing is told as it is.
+use mathlib.Core.Path.{◌≡◌, sym, ap, ◌∙◌}
+use native.Mathlib.Omega.{arith}
+use Rattle.std.specs.Prelude.{Result, Ok, Err, Option, Some, None, MatchOption, MatchResult, IsOkAnd}
+use Rattle.ground.proofs.AnswerLaws.{refusal-back}
+use Rattle.ground.specs.Answers.{done, said_of, tells}
+use Rattle.ground.specs.declared.refusals.Refusal.{Refusal}
+use Rattle.ground.specs.declared.quantity.MetresPerHour.{MetresPerHour}
+use Rattle.ground.specs.declared.quantity.PerCent.{PerCent}
+use Rattle.ground.specs.declared.said.SaidQuantity.{SaidQuantity}
+use Rattle.ground.specs.declared.said.SaidQuantity.TheVariants.{Natural, Missing}
+use Rattle.one_field.specs.Reporting.{said_uncertainty_speed_number, said_confidence_number}
 use Rattle.one_field.proofs.AboveLaws.{above-byte}
 use Rattle.one_field.proofs.reporting.reported_byte.Goals as goal
 
-pub returns-then-n-gt255 : goal.returns-then-n-gt255
-returns-then-n-gt255 c =
-    subst⁻¹ (TellsByte c.args.field c.args.n) c.above_byte.ensures (above-byte c.args.field c.args.n c.if-n-gt255.true)
+speed-told : (x : Option MetresPerHour) (said : SaidQuantity) → MatchOption x (said ≡ Missing) (λ q. said ≡ Natural q.0) → said ≡ said_uncertainty_speed_number x
+speed-told (Some s) said h = h
+speed-told None said h = h
 
-pub returns-in-Uncertainty : goal.returns-in-Uncertainty
-returns-in-Uncertainty c =
-    subst⁻¹ (λ (k : Byte). TellsByte k c.args.n c.radius.result) c.in-Uncertainty.is
-    (record { said = said_quantity field.uncertainty c.reported_uncertainty.result; promise = c.reported_uncertainty.ensures; told = c.radius.ensures })
+confidence-told : (x : Option PerCent) (said : SaidQuantity) → MatchOption x (said ≡ Missing) (λ q. said ≡ Natural q.0) → said ≡ said_confidence_number x
+confidence-told (Some p) said h = h
+confidence-told None said h = h
 
-pub returns-in-AltitudeUncertainty : goal.returns-in-AltitudeUncertainty
-returns-in-AltitudeUncertainty c =
-    subst⁻¹ (λ (k : Byte). TellsByte k c.args.n c.radius-in-AltitudeUncertainty.result) c.in-AltitudeUncertainty.is
-    (record { said = said_quantity field.altitude_uncertainty c.reported_altitude_uncertainty.result; promise = c.reported_altitude_uncertainty.ensures; told = c.radius-in-AltitudeUncertainty.ensures })
+mapped : (q : Result (Option PerCent) Refusal) (r : Result SaidQuantity Refusal) → MatchResult q (λ x. IsOkAnd r (λ said. MatchOption x (said ≡ Missing) (λ p. said ≡ Natural p.0))) (λ e. r ≡ Err e) → r ≡ tells said_confidence_number (said_of q)
+mapped (Ok x) (Ok said) h = ap Ok (confidence-told x said h)
+mapped (Ok x) (Err why) h = absurd h
+mapped (Err why) r h = h ∙ sym (ap Err (refusal-back why))
 
-pub returns-in-Offset : goal.returns-in-Offset
-returns-in-Offset c =
-    subst⁻¹ (λ (k : Byte). TellsByte k c.args.n c.angle.result) c.in-Offset.is
-    (record { said = said_quantity field.offset c.reported_offset.result; promise = c.reported_offset.ensures; told = c.angle.ensures })
-
-pub returns-in-Included : goal.returns-in-Included
-returns-in-Included c =
-    subst⁻¹ (λ (k : Byte). TellsByte k c.args.n c.angle-in-Included.result) c.in-Included.is
-    (record { said = said_quantity field.included c.reported_included.result; promise = c.reported_included.ensures; told = c.angle-in-Included.ensures })
-
-pub returns-in-Orientation : goal.returns-in-Orientation
-returns-in-Orientation c =
-    subst⁻¹ (λ (k : Byte). TellsByte k c.args.n c.angle-in-Orientation.result) c.in-Orientation.is
-    (record { said = said_quantity field.orientation c.reported_orientation.result; promise = c.reported_orientation.ensures; told = c.angle-in-Orientation.ensures })
+pub returns-in_default : goal.returns-in_default
+returns-in_default c = rw c.above_byte.ensures (above-byte c.args.field c.args.n (omega (arith, c.in_default.ensures)))
 
 pub returns-in-UncertaintySpeed : goal.returns-in-UncertaintySpeed
 returns-in-UncertaintySpeed c =
-    subst⁻¹ (λ (k : Byte). TellsByte k c.args.n c.uncertainty_speed.result) c.in-UncertaintySpeed.is
-    (record { said = done c.reported_uncertainty_speed.result; promise = c.reported_uncertainty_speed.ensures; told = c.uncertainty_speed.ensures })
+    let e : c.in-Ok.n ≡ c.args.n = c.in-Ok.ensures.1 in
+    rw (c.in-UncertaintySpeed.is, ← e)
+    (record { said = done c.reported_uncertainty_speed.result; promise = c.reported_uncertainty_speed.ensures; told = ap Ok (speed-told _ _ c.from.ensures) })
 
 pub returns-in-Confidence : goal.returns-in-Confidence
 returns-in-Confidence c =
-    subst⁻¹ (λ (k : Byte). TellsByte k c.args.n c.confidence.result) c.in-Confidence.is
-    (record { said = said_quantity field.confidence c.reported_confidence.result; promise = c.reported_confidence.ensures; told = c.confidence.ensures })
+    let e : c.in-Ok.n ≡ c.args.n = c.in-Ok.ensures.1 in
+    rw (c.in-Confidence.is, ← e)
+    (record { said = said_of c.reported_confidence.result; promise = c.reported_confidence.ensures; told = mapped _ _ c.map-in-Confidence.ensures.cases })

@@ -1,12 +1,10 @@
--- A dash, or a number, or neither.
-use Rattle.text.proofs.SaysLaws.{unsigned-says, unsigned-none, unsigned-unread}
+-- What is no number that 32 bits hold, and no dash.
+use Rattle.std.proofs.lemmas.Result.{err_from_is_err_and}
+use Rattle.text.proofs.SaysLaws.{unsigned-none, unsigned-unread}
+use Rattle.request_lines.proofs.AskingLaws.{no-dash}
 use Rattle.request_lines.proofs.amounts.amount_of.Goals as goal
 
-pub returns-then-mark-eq-DASH : goal.returns-then-mark-eq-DASH
-returns-then-mark-eq-DASH c = λ f h. h.dash c.if-mark-eq-DASH.true
-
-pub returns-in_default : goal.returns-in_default
-returns-in_default c = λ f h. (λ a. c.if-mark-eq-DASH.false (h.absent a), unsigned-unread (unsigned-none f (c.numeral_of.ensures f h) c.in_default.is c.unsigned_32.ensures))
-
-pub returns : goal.returns
-returns c = λ f h. unsigned-says f (c.numeral_of.ensures f h) c.in-Number.is c.unsigned_32.ensures
+pub returns-in_err-amount : goal.returns-in_err-amount
+returns-in_err-amount c = λ f h.
+    rw (err_from_is_err_and c.from_residual.result c.from_residual.ensures.1).1
+    (no-dash f c.args.entry c.in_default.not-Dash h, unsigned-unread (unsigned-none f (c.numeral_of.ensures f h) c.in_err-amount.ensures.ok_part c.unsigned_32.ensures))

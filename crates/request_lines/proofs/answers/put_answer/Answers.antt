@@ -3,7 +3,6 @@ use native.Mathlib.Omega.{arith}
 use Rattle.text.proofs.OutputLaws.{decimal-most}
 use Rattle.text.proofs.WithinLaws.{octet-within, decimal-within, after}
 use Rattle.request_lines.specs.Answers.{choice_text}
-use borrow.Author.Rules.{rules}
 use Rattle.request_lines.proofs.answers.put_answer.Goals as goal
 
 pub put_decimal-space-requires : goal.put_decimal-space-requires
@@ -14,10 +13,10 @@ put_byte-said-requires c =
     let number = decimal-within (omega arith) c.put_decimal-space.ensures in
     omega (arith, number.within)
 
-pub put_said-end-requires : goal.put_said-end-requires
-put_said-end-requires c =
+pub put_said-end-requires-clause-at_in_bounds : goal.put_said-end-requires-clause-at_in_bounds
+put_said-end-requires-clause-at_in_bounds c =
     let number = decimal-within (omega arith) c.put_decimal-space.ensures in
-    record { message_len_bound = search rules; at_in_bounds = omega (arith, number.within, c.put_byte-said.ensures.place) }
+    omega (arith, number.within, c.put_byte-said.ensures.place)
 
 pub put_byte-requires : goal.put_byte-requires
 put_byte-requires c =

@@ -1,4 +1,4 @@
--- By the answer: a dash, 0 and the octets, or the refusal's number.
+-- By the answer: a dash, the refusal's number, or 0 and the octets.
 use Prim.Native.Nat.{◌≤◌}
 use lib.ListN.{length}
 use native.Mathlib.Omega.{arith}
@@ -9,21 +9,22 @@ use Rattle.text.proofs.OctetLaws.{octets-length}
 use Rattle.request_lines.specs.Answers.{said_text}
 use Rattle.request_lines.proofs.answers.put_said.Goals as goal
 
-pub returns-in_default : goal.returns-in_default
+pub returns-in-Unreadable : goal.returns-in-Unreadable
 unfolding said_text
-returns-in_default c = rw c.in_default.is (within (omega arith) c.put_byte.ensures)
+returns-in-Unreadable c = rw c.in-Unreadable.is (within (omega arith) c.put_byte.ensures)
 
 pub put_decimal-requires : goal.put_decimal-requires
-put_decimal-requires c = omega (arith, decimal-most {n = c.refusal_number.result} (omega arith))
-
-pub returns-in-Done : goal.returns-in-Done
-unfolding said_text
-returns-in-Done c =
-    let most : length (octets_text c.args.message.now) ≤ 42 = omega (arith, octets-length c.args.message.now) in
-    rw (c.in-Chosen.is, c.in-Done.is) (after (octet-within c.put_byte-next.ensures) (within most c.put_octets.ensures))
+put_decimal-requires c = omega (arith, decimal-most {n = c.from.result} (omega arith))
 
 pub returns-in-Refused : goal.returns-in-Refused
 unfolding said_text
 returns-in-Refused c =
     let p = fewer {n = 43} (omega arith) (decimal-within (omega arith) c.put_decimal.ensures) in
-    rw (c.in-Chosen.is, c.in-Refused.is, ← c.refusal_number.ensures) p
+    rw (c.in-Refused.is, ← c.from.ensures) p
+
+pub returns-in-Message : goal.returns-in-Message
+unfolding said_text
+returns-in-Message c =
+    let short = rw c.in-Message.is at c.requires.message_len_bound in
+    let most : length (octets_text c.in-Message.message.now) ≤ 42 = omega (arith, short, octets-length c.in-Message.message.now) in
+    rw c.in-Message.is (after (octet-within c.put_byte-next.ensures) (within most c.put_octets.ensures))

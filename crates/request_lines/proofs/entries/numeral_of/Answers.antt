@@ -1,12 +1,6 @@
--- By the mark.
-use mathlib.Core.Path.{sym}
+-- A dash is no number.
+use Rattle.request_lines.proofs.EntryLaws.{dash-nothing}
 use Rattle.request_lines.proofs.entries.numeral_of.Goals as goal
 
-pub returns-then-mark-eq-PLAIN : goal.returns-then-mark-eq-PLAIN
-returns-then-mark-eq-PLAIN c = λ f h. sym (h.plain c.if-mark-eq-PLAIN.true)
-
-pub returns-then-mark-eq-MINUS : goal.returns-then-mark-eq-MINUS
-returns-then-mark-eq-MINUS c = λ f h. sym (h.minus c.if-mark-eq-MINUS.true)
-
-pub returns : goal.returns
-returns c = λ f h. sym (h.other c.if-mark-eq-PLAIN.false c.if-mark-eq-MINUS.false)
+pub returns-in-Dash : goal.returns-in-Dash
+returns-in-Dash c = λ f h. rw (rw c.in-Dash.is at h, dash-nothing)

@@ -1,10 +1,6 @@
 -- Each field ends where the next space stands, and the eighth where the line ends.
-use Prim.Native.Nat.{◌-◌, ◌≤◌}
 use Rattle.request_lines.proofs.PartedLaws.{Parted}
 use Rattle.request_lines.proofs.entries.read_eight.Given as goal
 
 abbrev pub invariant-loop-number : goal.invariant-loop-number
-invariant-loop-number l = (l.number ≤ 7) × Parted l.line l.marks l.sizes l.number l.from
-
-abbrev pub decreases-loop-number : goal.decreases-loop-number
-decreases-loop-number l = 7 - l.number
+invariant-loop-number l = Parted l.line l.held l.number l.from

@@ -1,6 +1,9 @@
--- None of the places that the loop has passed holds the mark.
-use Rattle.std.proofs.Common.{rules, below_more}
+-- The search of the part from a place on.
+use Rattle.text.proofs.MarkLaws.{mark-found, mark-absent}
 use Rattle.text.proofs.marks.first_mark.Goals as goal
 
-pub loop-i-preserved : goal.loop-i-preserved
-loop-i-preserved c = (search rules, search rules, below_more _ _ c.loop-i.invariant.2 (λ _. c.if-s-i.false))
+pub returns-in-Some : goal.returns-in-Some
+returns-in-Some c = mark-found c.args.s.now c.args.from c.args.mark c.requires c.in-Some.place c.in-Some.ensures
+
+pub returns-in-None : goal.returns-in-None
+returns-in-None c = mark-absent c.args.s.now c.args.from c.args.mark c.requires c.in-None.ensures

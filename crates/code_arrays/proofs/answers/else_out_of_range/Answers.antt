@@ -1,8 +1,0 @@
--- `code_arrays::answers::else_out_of_range` meets its contract, by the outcome.
-use Rattle.code_arrays.proofs.answers.else_out_of_range.Goals as goal
-
-pub returns-in-Done : goal.returns-in-Done
-returns-in-Done c = rw c.in-Done.is
-
-pub returns-in-Refused : goal.returns-in-Refused
-returns-in-Refused c = rw c.in-Refused.is

@@ -1,9 +1,0 @@
--- `radii::reported_altitude_uncertainty` meets its contract, by the rule of the table of heights.
-use borrow.Author.Rules.{rules}
-use Rattle.radii.specs.Tables.{entries_in}
-use Rattle.radii.proofs.TableLaws.{entry}
-use Rattle.radii.proofs.reported_altitude_uncertainty.Goals as goal
-
-pub returns : goal.returns
-unfolding entries_in
-returns c = rw c.entry.ensures (entry 45000 41 40 (search rules) _ (search rules))

@@ -1,4 +1,0 @@
-use Rattle.velocities.proofs.answers.written.Goals as goal
-
-pub returns-in-Done : goal.returns-in-Done
-returns-in-Done c = rw c.in-Done.is c.length_of.ensures

@@ -1,5 +1,0 @@
--- Stores one after another.
-use Rattle.velocity_octets.proofs.message.put_five.Goals as goal
-
-pub returns : goal.returns
-returns c = rw c.put_four.ensures
