@@ -57,15 +57,17 @@ pub fn code_velocity(codes: &mut [u32], quantities: &[i64]) -> Whole
     put_codes(codes, coded_in(quantities))
 }
 
+// A record is made after the test alone, so that the compiler need not cap what the test bounds: here, and below.
 fn write_elements(out: &mut [u8], codes: &[u32]) -> Result<usize, Refusal>
     requires { 7 ≤ length codes.now }
     ensures { Writes (array_velocity_rows codes.now) (velocity_value_in codes.now) out.old out.new result }
 {
-    let velocity = code_arrays::velocity_in(codes);
     if !code_arrays::velocity_is_whole(codes) {
+        let velocity = code_arrays::velocity_in(codes);
         velocities::velocity_outcome(velocity)?;
         return Err(Refusal::OutOfRange);
     }
+    let velocity = code_arrays::velocity_in(codes);
     velocities::write_velocity(out, velocity)
 }
 
@@ -73,11 +75,12 @@ fn reported_in(codes: &[u32]) -> Result<VelocityQuantities, Refusal>
     requires { 7 ≤ length codes.now }
     ensures { ReportsVelocityIn codes.now result }
 {
-    let velocity = code_arrays::velocity_in(codes);
     if !code_arrays::velocity_is_whole(codes) {
+        let velocity = code_arrays::velocity_in(codes);
         velocities::velocity_outcome(velocity)?;
         return Err(Refusal::OutOfRange);
     }
+    let velocity = code_arrays::velocity_in(codes);
     reports::report_velocity(velocity)
 }
 
@@ -85,12 +88,13 @@ fn coded_in(given: &[i64]) -> Result<Velocity, Refusal>
     requires { 6 ≤ length given.now }
     ensures { CodesVelocityIn given.now result }
 {
-    let quantities = quantity_arrays::velocity_quantities_in(given);
     if !quantity_arrays::velocity_arrives(given) {
+        let quantities = quantity_arrays::velocity_quantities_in(given);
         let kind = quantities.kind;
         kind_outcome(kind)?;
         return Err(Refusal::OutOfRange);
     }
+    let quantities = quantity_arrays::velocity_quantities_in(given);
     records::code_velocity(quantities)
 }
 

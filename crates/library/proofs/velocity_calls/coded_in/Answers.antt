@@ -20,4 +20,4 @@ returns-then-not-velocity_arrives c =
 
 pub returns : goal.returns
 returns c =
-    arrived-velocity-codes c.args.given.now c.code_velocity.result (shown c.velocity_arrives.result (ap not c.if-not-velocity_arrives.false) c.velocity_arrives.ensures) (rw c.velocity_quantities_in-quantities.ensures at c.code_velocity.ensures)
+    arrived-velocity-codes c.args.given.now c.code_velocity.result (shown c.velocity_arrives.result (ap not c.if-not-velocity_arrives.false) c.velocity_arrives.ensures) (rw c.velocity_quantities_in-quantities-2.ensures at c.code_velocity.ensures)

@@ -21,4 +21,4 @@ returns-then-not-velocity_is_whole c =
 
 pub returns : goal.returns
 returns c =
-    held-velocity-reports c.args.codes.now c.report_velocity.result (shown c.velocity_is_whole.result (ap not c.if-not-velocity_is_whole.false) c.velocity_is_whole.ensures) (rw c.velocity_in-velocity.ensures at c.report_velocity.ensures)
+    held-velocity-reports c.args.codes.now c.report_velocity.result (shown c.velocity_is_whole.result (ap not c.if-not-velocity_is_whole.false) c.velocity_is_whole.ensures) (rw c.velocity_in-velocity-2.ensures at c.report_velocity.ensures)

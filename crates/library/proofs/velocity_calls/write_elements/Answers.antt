@@ -20,4 +20,4 @@ returns-then-not-velocity_is_whole c =
 
 pub returns : goal.returns
 returns c =
-    held-velocity-writes c.args.codes.now (shown c.velocity_is_whole.result (ap not c.if-not-velocity_is_whole.false) c.velocity_is_whole.ensures) _ _ c.write_velocity.result (rw c.velocity_in-velocity.ensures at c.write_velocity.ensures)
+    held-velocity-writes c.args.codes.now (shown c.velocity_is_whole.result (ap not c.if-not-velocity_is_whole.false) c.velocity_is_whole.ensures) _ _ c.write_velocity.result (rw c.velocity_in-velocity-2.ensures at c.write_velocity.ensures)
