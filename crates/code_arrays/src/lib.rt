@@ -7,7 +7,7 @@ mod quantity_numbers;
 mod shape;
 mod velocity;
 
-pub use answers::{answer, else_out_of_range, given_room};
+pub use answers::answer;
 pub use code_numbers::{bit, complement_of, longitude_of};
 pub use quantity_numbers::{
     Narrow, is_missing, is_natural, is_signed, missing, natural, put_quantities, signed, wide,

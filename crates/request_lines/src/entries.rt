@@ -17,7 +17,6 @@ pub enum Entry {
 
 // Reads a line of eight fields. Each but the last ends at a space.
 pub fn read_eight(held: &mut [Entry; 8], line: &[u8]) -> Result<(), Unreadable>
-    requires { length held.old ≡ 8 }
     ensures { HeldInEight line.now held.new result }
 {
     let mut from = 0;
