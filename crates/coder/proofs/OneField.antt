@@ -18,12 +18,11 @@ use Rattle.text.proofs.WidthLaws.{means-one}
 use Rattle.text.proofs.SaysLaws.{signed-one, unsigned-one, unsigned-dash, confidence-one}
 use Rattle.text.specs.AnswerLines.{line_of_code, line_of_quantity}
 use Rattle.text.specs.declared.said.SaidLine.{SaidLine}
-use Rattle.text.specs.declared.said.SaidLine.TheVariants.{Unreadable}
 use Rattle.one_field.specs.Coding.{count_of}
 use Rattle.coder.specs.declared.names.Name.{Name}
 use Rattle.coder.specs.Names.{field_of}
 use Rattle.coder.specs.Written.{TextSays, WritesUncertaintySpeed, WriteNumbers, none, more, signed_numbers, numbers_of}
-use Rattle.coder.specs.FieldTexts.{CodesText, no_quantity, ReportsText, no_code, no_numbers}
+use Rattle.coder.specs.FieldTexts.{CodesText, no_quantity, CodesAt, ReportsText, no_code, no_numbers, ReportsAt}
 use Rattle.coder.specs.FieldTexts as texts
 use Rattle.ground.specs.declared.quantity.MetresPerHour.{MetresPerHour}
 
@@ -130,15 +129,7 @@ reports-one f (no_numbers h p) (texts.reported {c = d} i s q) = absurd (h (numbe
 reports-one f (no_numbers h p) (no_code {zs = zs} i l k q) = absurd (h zs i l)
 reports-one f (no_numbers h p) (no_numbers i q) = p ∙ sym q
 
--- ---- of what a word names: its field's answer, or unreadable where it names none
-
-abbrev pub CodesAt : Option Name → List (List ℕ) → SaidLine → Type 0
-CodesAt (Some name) ts r = CodesText (field_of name) ts r
-CodesAt None ts r = r ≡ Unreadable
-
-abbrev pub ReportsAt : Option Name → List (List ℕ) → SaidLine → Type 0
-ReportsAt (Some name) ts r = ReportsText (field_of name) ts r
-ReportsAt None ts r = r ≡ Unreadable
+-- ---- of what a word names
 
 pub codes-at-one : (name : Option Name) (ts : List (List ℕ)) {a b : SaidLine} → CodesAt name ts a → CodesAt name ts b → a ≡ b
 codes-at-one (Some name) ts p q = codes-one (field_of name) p q

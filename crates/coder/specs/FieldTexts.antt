@@ -1,5 +1,5 @@
 -- What is printed for the texts behind a field's name.
-use Rattle.std.specs.Prelude.{◌≡◌, List, [], ◌∷◌, ℕ, ℤ, length, min, pos, Result, None}
+use Rattle.std.specs.Prelude.{◌≡◌, List, [], ◌∷◌, ℕ, ℤ, length, min, pos, Result, Option, Some, None}
 use Rattle.ground.specs.declared.refusals.Refusal.{Refusal}
 use Rattle.ground.specs.declared.said.SaidCode.{SaidCode}
 use Rattle.ground.specs.declared.said.SaidQuantity.{SaidQuantity}
@@ -24,6 +24,8 @@ use Rattle.text.specs.AnswerLines.{line_of_code, line_of_quantity}
 use Rattle.text.specs.declared.said.SaidLine.{SaidLine}
 use Rattle.text.specs.declared.said.SaidLine.TheVariants.{Unreadable, Refused}
 use Rattle.one_field.specs.Coding.{count_of}
+use Rattle.coder.specs.declared.names.Name.{Name}
+use Rattle.coder.specs.Names.{field_of}
 use Rattle.coder.specs.Written.{TextSays, WriteNumbers, numbers_of}
 
 -- ---- coding
@@ -33,6 +35,11 @@ pub data CodesText (f : Field) (texts : List (List ℕ)) (r : SaidLine) : Type 0
   coded : {text : List ℕ} {x : QuantityOf f} {said : Result SaidCode Refusal} → texts ≡ text ∷ [] → TextSays f text x → coding.TellsCode f x said → r ≡ line_of_code said → CodesText f texts r
   no_quantity : ((text : List ℕ) (x : QuantityOf f) → texts ≡ text ∷ [] → TextSays f text x → ⊥) → r ≡ Unreadable → CodesText f texts r
 
+-- of what a word names: its field's answer, or unreadable where it names none
+abbrev pub CodesAt : Option Name → List (List ℕ) → SaidLine → Type 0
+CodesAt (Some name) ts r = CodesText (field_of name) ts r
+CodesAt None ts r = r ≡ Unreadable
+
 -- ---- reporting
 
 -- numbers that are a code, numbers that are none, or unreadable
@@ -40,6 +47,11 @@ pub data ReportsText (f : Field) (texts : List (List ℕ)) (r : SaidLine) : Type
   reported : {c : CodeOf f} {said : Result SaidQuantity Refusal} → WriteNumbers texts (numbers_of f c) → reporting.TellsQuantity f c said → r ≡ line_of_quantity said → ReportsText f texts r
   no_code : {zs : List ℤ} → WriteNumbers texts zs → length zs ≡ count_of f → ((c : CodeOf f) → numbers_of f c ≡ zs → ⊥) → r ≡ Refused 7 → ReportsText f texts r
   no_numbers : ((zs : List ℤ) → WriteNumbers texts zs → length zs ≡ count_of f → ⊥) → r ≡ Unreadable → ReportsText f texts r
+
+-- the same of a report
+abbrev pub ReportsAt : Option Name → List (List ℕ) → SaidLine → Type 0
+ReportsAt (Some name) ts r = ReportsText (field_of name) ts r
+ReportsAt None ts r = r ≡ Unreadable
 
 -- a text that is no code of one number, or what a reporter says of the number, and of the largest of 32 bits for one that is larger
 pub data ReportsNumber (says : ℕ → Result SaidQuantity Refusal → Type 0) (text : List ℕ) (r : SaidLine) : Type 0 where

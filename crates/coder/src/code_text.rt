@@ -1,8 +1,8 @@
 // A quantity's code. A quantity that does not fit the width in which it arrives makes its line unreadable.
+ghost use Rattle.std.specs.Prelude.{Some};
 ghost use Rattle.fields.specs.Fields.{altitude, vertical_speed, uncertainty_speed, confidence};
 ghost use Rattle.text.specs.LineFields.{fields_of};
-ghost use Rattle.coder.specs.Names.{field_of};
-ghost use Rattle.coder.specs.FieldTexts.{CodesText, CodesUnsigned, coordinate_field};
+ghost use Rattle.coder.specs.FieldTexts.{CodesAt, CodesText, CodesUnsigned, coordinate_field};
 
 use crate::names::Name;
 use ground::{Nanodegrees, SignedMetresPerHour, SignedMillimetres};
@@ -11,7 +11,7 @@ use text::SaidLine;
 
 // The code for that name. More than one text is no number: there is a space in it.
 pub fn coded(name: Name, text: &[u8]) -> SaidLine
-    ensures { CodesText (field_of name) (fields_of text.now) result }
+    ensures { CodesAt (Some name) (fields_of text.now) result }
 {
     match name {
         Name::Latitude => coordinate(Coordinate::Latitude, text),

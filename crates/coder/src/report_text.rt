@@ -1,12 +1,11 @@
 // A code's quantity. A number that is no code of the field is refused; what is no number makes its line unreadable.
-ghost use Rattle.std.specs.Prelude.{◌≡◌, List, ◌∷◌, ℕ, min, pos};
+ghost use Rattle.std.specs.Prelude.{◌≡◌, List, ◌∷◌, ℕ, min, pos, Some};
 ghost use Rattle.fields.specs.Fields.{longitude};
 ghost use Rattle.text.specs.LineFields.{fields_of};
 ghost use Rattle.text.specs.Numerals.{numeral_of};
 ghost use Rattle.text.specs.declared.said.SaidLine.TheVariants.{Refused};
 ghost use Rattle.text.specs.Widths.{AsSize, Means};
-ghost use Rattle.coder.specs.Names.{field_of};
-ghost use Rattle.coder.specs.FieldTexts.{ReportsText, ReportsNumber, byte_field, word_field, signed_field};
+ghost use Rattle.coder.specs.FieldTexts.{ReportsAt, ReportsText, ReportsNumber, byte_field, word_field, signed_field};
 
 use crate::names::Name;
 use ground::{LongitudeCode, Refusal, SaidQuantity};
@@ -15,7 +14,7 @@ use text::{SaidLine, Size};
 
 // The quantity for that name.
 pub fn reported(name: Name, texts: &[u8]) -> SaidLine
-    ensures { ReportsText (field_of name) (fields_of texts.now) result }
+    ensures { ReportsAt (Some name) (fields_of texts.now) result }
 {
     match name {
         Name::Latitude => signed(Signed::Latitude, texts),

@@ -2,7 +2,7 @@
 // altitude uncertainty, altitude, inner radius, offset, included, orientation, bearing, horizontal speed, vertical speed, uncertainty
 // speed, confidence, from 0.
 ghost use Rattle.ground.specs.Answers.{outcome_of};
-ghost use Rattle.code_arrays.specs.Answers.{answer_of, PutsElements};
+ghost use Rattle.code_arrays.specs.Answers.{PutsElements};
 ghost use Rattle.field_arrays.specs.Fields.{CodesField, CodesNatural, CodesElement, said_code_elements};
 ghost use Rattle.fields.specs.Fields.{altitude, vertical_speed, uncertainty_speed, confidence};
 ghost use Rattle.std.specs.Prelude.{[], ◌∷◌, Ok};
@@ -80,39 +80,34 @@ fn vertical_speed(quantity: Whole) -> Result<SaidCode, Refusal>
     }
 }
 
-// Puts a code's numbers: S or D and N, or N alone.
+// Puts a code's numbers: S or D and N, or N alone. Each answer is made where it is known: a `Result` of how many would be told apart again.
 pub fn put_code(out: &mut [u32], said: Result<SaidCode, Refusal>) -> Whole
     ensures { PutsElements (outcome_of said) (said_code_elements said) out.old out.new result.0 }
 {
-    code_arrays::answer(put(out, said))
-}
-
-fn put(out: &mut [u32], said: Result<SaidCode, Refusal>) -> Result<usize, Refusal>
-    ensures { PutsElements (outcome_of said) (said_code_elements said) out.old out.new (answer_of result) }
-{
-    match said? {
-        SaidCode::Natural(n) => put_one(out, n),
-        SaidCode::Signed(code) => put_two(out, code_arrays::bit(code.0), code.1),
-        SaidCode::Longitude(code) => put_one(out, code_arrays::complement_of(code)),
+    match said {
+        Ok(SaidCode::Natural(n)) => put_one(out, n),
+        Ok(SaidCode::Signed(code)) => put_two(out, code_arrays::bit(code.0), code.1),
+        Ok(SaidCode::Longitude(code)) => put_one(out, code_arrays::complement_of(code)),
+        Err(why) => code_arrays::answer(Err(why)),
     }
 }
 
-fn put_one(out: &mut [u32], n: u32) -> Result<usize, Refusal>
-    ensures { PutsElements (Ok tt) (n ∷ []) out.old out.new (answer_of result) }
+fn put_one(out: &mut [u32], n: u32) -> Whole
+    ensures { PutsElements (Ok tt) (n ∷ []) out.old out.new result.0 }
 {
     let [one, ..] = out else {
-        return Err(Refusal::BufferTooShort);
+        return code_arrays::answer(Err(Refusal::BufferTooShort));
     };
     *one = n;
-    Ok(1)
+    code_arrays::answer(Ok(1))
 }
 
-fn put_two(out: &mut [u32], first: u32, second: u32) -> Result<usize, Refusal>
-    ensures { PutsElements (Ok tt) (first ∷ second ∷ []) out.old out.new (answer_of result) }
+fn put_two(out: &mut [u32], first: u32, second: u32) -> Whole
+    ensures { PutsElements (Ok tt) (first ∷ second ∷ []) out.old out.new result.0 }
 {
     let Some(both) = out.first_chunk_mut::<2>() else {
-        return Err(Refusal::BufferTooShort);
+        return code_arrays::answer(Err(Refusal::BufferTooShort));
     };
     *both = [first, second];
-    Ok(2)
+    code_arrays::answer(Ok(2))
 }

@@ -1,7 +1,7 @@
 // A code's quantity. The code is given as its elements.
 ghost use Rattle.std.specs.Prelude.{◌≡◌, [], ◌∷◌, Ok};
 ghost use Rattle.ground.specs.Answers.{outcome_of};
-ghost use Rattle.code_arrays.specs.Answers.{answer_of, PutsElements};
+ghost use Rattle.code_arrays.specs.Answers.{PutsElements};
 ghost use Rattle.field_arrays.specs.Fields.{ReportsField, ReportsSigned, ReportsByte, ReportsWord, ReportsElements, quantity_elements, said_quantity_elements};
 ghost use Rattle.fields.specs.Fields.{longitude};
 
@@ -38,11 +38,10 @@ fn signed(field: Signed, code: &[u32]) -> Result<SaidQuantity, Refusal>
     let [sign, n, ..] = code else {
         return Err(Refusal::WrongLength);
     };
-    match *sign {
-        0 => one_field::reported_signed(field, false, *n),
-        1 => one_field::reported_signed(field, true, *n),
-        _ => Err(Refusal::OutOfRange),
+    if 1 < *sign {
+        return Err(Refusal::OutOfRange);
     }
+    one_field::reported_signed(field, *sign == 1, *n)
 }
 
 fn byte(field: Byte, code: &[u32]) -> Result<SaidQuantity, Refusal>
@@ -76,18 +75,20 @@ fn longitude(code: &[u32]) -> Result<SaidQuantity, Refusal>
 pub fn put_quantity(out: &mut [i64], said: Result<SaidQuantity, Refusal>) -> Whole
     ensures { PutsElements (outcome_of said) (said_quantity_elements said) out.old out.new result.0 }
 {
-    code_arrays::answer(put(out, said))
+    match said {
+        Ok(quantity) => put_one(out, element_of(quantity)),
+        Err(why) => code_arrays::answer(Err(why)),
+    }
 }
 
-fn put(out: &mut [i64], said: Result<SaidQuantity, Refusal>) -> Result<usize, Refusal>
-    ensures { PutsElements (outcome_of said) (said_quantity_elements said) out.old out.new (answer_of result) }
+fn put_one(out: &mut [i64], quantity: Whole) -> Whole
+    ensures { PutsElements (Ok tt) (quantity.0 ∷ []) out.old out.new result.0 }
 {
-    let quantity = element_of(said?);
     let [one, ..] = out else {
-        return Err(Refusal::BufferTooShort);
+        return code_arrays::answer(Err(Refusal::BufferTooShort));
     };
     *one = quantity.0;
-    Ok(1)
+    code_arrays::answer(Ok(1))
 }
 
 fn element_of(said: SaidQuantity) -> Whole

@@ -42,12 +42,13 @@ pub enum Markable {
     Confidence,
 }
 
+// Here and below a refusal leaves by `?`: where `map` hands it on, the compiler tells each answer apart a second time.
 pub fn coded_coordinate(field: Coordinate, x: Nanodegrees) -> Result<SaidCode, Refusal>
     ensures { TellsCoordinate field x result }
 {
     match field {
-        Coordinate::Latitude => latitude_code(x).map(SaidCode::from),
-        Coordinate::Longitude => longitude_code(x).map(SaidCode::from),
+        Coordinate::Latitude => Ok(SaidCode::from(latitude_code(x)?)),
+        Coordinate::Longitude => Ok(SaidCode::from(longitude_code(x)?)),
     }
 }
 
@@ -55,20 +56,20 @@ pub fn coded_unsigned(field: Unsigned, x: u32) -> Result<SaidCode, Refusal>
     ensures { TellsUnsigned field x result }
 {
     match field {
-        Unsigned::Uncertainty => uncertainty_code(Millimetres(x)).map(SaidCode::from),
-        Unsigned::AltitudeUncertainty => altitude_uncertainty_code(Millimetres(x)).map(
-            SaidCode::from,
-        ),
+        Unsigned::Uncertainty => Ok(SaidCode::from(uncertainty_code(Millimetres(x))?)),
+        Unsigned::AltitudeUncertainty => Ok(SaidCode::from(altitude_uncertainty_code(Millimetres(
+            x,
+        ))?)),
         Unsigned::InnerRadius => Ok(SaidCode::from(inner_radius_code(Millimetres(x)))),
-        Unsigned::Offset => offset_code(Millidegrees(x)).map(SaidCode::from),
-        Unsigned::Included => included_code(Millidegrees(x)).map(SaidCode::from),
-        Unsigned::Orientation => orientation_code(Millidegrees(x)).map(SaidCode::from),
-        Unsigned::Bearing => bearing_code(Millidegrees(x)).map(SaidCode::from),
+        Unsigned::Offset => Ok(SaidCode::from(offset_code(Millidegrees(x))?)),
+        Unsigned::Included => Ok(SaidCode::from(included_code(Millidegrees(x))?)),
+        Unsigned::Orientation => Ok(SaidCode::from(orientation_code(Millidegrees(x))?)),
+        Unsigned::Bearing => Ok(SaidCode::from(bearing_code(Millidegrees(x))?)),
         Unsigned::HorizontalSpeed => Ok(SaidCode::from(horizontal_speed_code(MetresPerHour(x)))),
-        Unsigned::UncertaintySpeed => uncertainty_speed_code(Some(MetresPerHour(x))).map(
-            SaidCode::from,
-        ),
-        Unsigned::Confidence => confidence_code(Some(PerCent(x))).map(SaidCode::from),
+        Unsigned::UncertaintySpeed => Ok(SaidCode::from(uncertainty_speed_code(Some(MetresPerHour(
+            x,
+        )))?)),
+        Unsigned::Confidence => Ok(SaidCode::from(confidence_code(Some(PerCent(x)))?)),
     }
 }
 
@@ -76,8 +77,8 @@ pub fn coded_missing(field: Markable) -> Result<SaidCode, Refusal>
     ensures { TellsMissing field result }
 {
     match field {
-        Markable::UncertaintySpeed => uncertainty_speed_code(None).map(SaidCode::from),
-        Markable::Confidence => confidence_code(None).map(SaidCode::from),
+        Markable::UncertaintySpeed => Ok(SaidCode::from(uncertainty_speed_code(None)?)),
+        Markable::Confidence => Ok(SaidCode::from(confidence_code(None)?)),
     }
 }
 

@@ -1,7 +1,7 @@
 // What was read of standard input. Its fields are private: that octets came, that the input is over or that a read failed, only a
 // read can say.
-ghost use Rattle.std.specs.Prelude.{◌≡◌, ◌≤◌, length};
-ghost use Rattle.streaming.specs.Sources.{unread_yet, ReadBehind, ReadMore};
+ghost use Rattle.std.specs.Prelude.{◌≡◌, ◌≤◌, is_err, length};
+ghost use Rattle.streaming.specs.Sources.{brought, unread_yet, ReadBehind, ReadMore};
 
 use crate::{block, calls};
 use std::io::{Error, Read};
@@ -44,7 +44,7 @@ pub fn is_failed(source: Source) -> bool
     source.failed
 }
 
-// Moves the octets from `at` on to the start, and reads once, behind them. Why a read failed is said on standard error.
+// Moves the octets from `at` on to the start, and reads once, behind them.
 pub fn read_more(rt: &HostRuntime, buf: &mut [u8], at: usize, source: Source) -> Source
     requires { (at ≤ source.fill) × (source.fill ≤ length buf.old) }
     ensures { ReadMore buf.old buf.new at source result }
@@ -52,17 +52,24 @@ pub fn read_more(rt: &HostRuntime, buf: &mut [u8], at: usize, source: Source) ->
     let fill = source.fill;
     block::shift(buf, at, fill);
     let kept = fill - at;
-    let (more, failed) = match read_behind(rt, buf, kept) {
+    let (more, failed) = told(rt, read_behind(rt, buf, kept));
+    Source {
+        fill: kept + more,
+        over: more == 0,
+        failed,
+    }
+}
+
+// How many octets a read brought, and whether it failed, which is said on standard error.
+fn told(rt: &HostRuntime, read: Result<usize, Error>) -> (usize, bool)
+    ensures { result ≡ (brought read, is_err read) }
+{
+    match read {
         Ok(octets) => (octets, false),
         Err(error) => {
             calls::fail(rt, "gad: standard input", error);
             (0, true)
         }
-    };
-    Source {
-        fill: kept + more,
-        over: more == 0,
-        failed,
     }
 }
 

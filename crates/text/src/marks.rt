@@ -4,12 +4,21 @@ ghost use Rattle.text.specs.Marks.{FirstMark};
 
 use memchr::memchr;
 
-// The place of the first space from `from` on, or the line's length where there is none.
+// Most fields are shorter.
+const SHORT_FIELD: usize = 16;
+
+// The place of the first space from `from` on, or the line's length where there is none. In a short field each octet is looked at in turn.
 pub fn field_end(line: &[u8], from: usize) -> usize
     requires { from ≤ length line.now }
     ensures { FirstMark 32 line.now from result }
 {
-    first_mark(line, from, 32)
+    let near = line.len().min(from + SHORT_FIELD);
+    for place in from..near {
+        if line[place] == 32 {
+            return place;
+        }
+    }
+    first_mark(line, near, 32)
 }
 
 // The place of the first newline from `from` on, or the length of what is held where there is none.
