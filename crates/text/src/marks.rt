@@ -18,14 +18,20 @@ pub fn field_end(line: &[u8], from: usize) -> usize
             return place;
         }
     }
+    if near == line.len() {
+        return near;
+    }
     first_mark(line, near, 32)
 }
 
-// The place of the first newline from `from` on, or the length of what is held where there is none.
+// The place of the first newline from `from` on, or the length of what is held where there is none. An empty line needs no search.
 pub fn line_end(held: &[u8], from: usize) -> usize
     requires { from ≤ length held.now }
     ensures { FirstMark 10 held.now from result }
 {
+    if from < held.len() && held[from] == 10 {
+        return from;
+    }
     first_mark(held, from, 10)
 }
 
